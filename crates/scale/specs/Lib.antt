@@ -1,0 +1,4 @@
+pub mod Order
+pub mod Codes
+pub mod YesNoScale
+pub mod MarginScale
