@@ -1,0 +1,11 @@
+pub mod Kinds
+pub mod Tables
+pub mod Values
+pub mod Meaning
+pub mod Lags
+pub mod Places
+pub mod Refusals
+pub mod Judging
+pub mod Accepting
+pub mod Checking
+pub mod Plans
