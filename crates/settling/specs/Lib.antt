@@ -1,0 +1,9 @@
+pub mod Settled
+pub mod Waiting
+pub mod Early
+pub mod Records
+pub mod Totals
+pub mod Formulas
+pub mod Statements
+pub mod Keeping
+pub mod Telling
