@@ -1,0 +1,5 @@
+pub mod Contents
+pub mod Newest
+pub mod Regions
+mod Rings
+mod Turned
