@@ -1,0 +1,6 @@
+pub mod Asking
+pub mod Places
+pub mod Firsts
+pub mod Scaling
+pub mod Storing
+pub mod Judging
