@@ -1,0 +1,5 @@
+mod Booked
+mod Formed
+mod Listed
+mod Paged
+mod Queued
