@@ -1,0 +1,4 @@
+pub mod Folding
+pub mod Running
+pub mod Nodestep
+pub mod Allnodes
