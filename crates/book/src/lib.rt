@@ -2,6 +2,8 @@
 //! every outbox does, and says also what becomes of the bytes: a record that is put stands on the page after all others,
 //! in the format of `specs/Format.antt`, and no other byte ever changes. What waits is read from the bytes alone, in a
 //! scale that names the value of each code (`reading`). Read `specs/Books.antt` first, then `specs/Format.antt`.
+#![tactic(auto)]
+
 pub mod format;
 pub mod reading;
 

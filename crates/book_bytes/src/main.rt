@@ -1,6 +1,8 @@
 //! How records stand in a book: the bytes of a book of yes/no verdicts and of a book of margins, in hexadecimal, 16 to a
 //! line. A line that a record fills reads, from the left: rule, a zero byte, the code of the value (2 bytes), first, last
 //! and lag (4 bytes each). All bytes hold `ee` before, so that those that no record fills are seen to stay.
+#![tactic(auto)]
+
 use book::Book;
 use book::reading::Readable;
 use margin::Margin;

@@ -3,6 +3,8 @@
 //! after another, and what is promised of every run, at each of its calls, stands in `specs/Promises.antt`: whatever samples
 //! follow, each verdict issued is the one that the formulas give, issued once and at the first tick possible. Read
 //! `specs/Promises.antt` first.
+#![tactic(auto)]
+
 pub mod call;
 mod one;
 

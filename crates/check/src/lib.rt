@@ -3,6 +3,8 @@
 //! room that a monitor needs. No other way leads to a plan but the one that is built in, so whoever holds a plan knows
 //! that its table is accepted. Read `src/plan.rt` first; the crate `table` has the definitions of what a table means and
 //! costs, and what the answer of the check means.
+#![tactic(auto)]
+
 mod judge;
 mod lags;
 mod places;

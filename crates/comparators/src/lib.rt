@@ -2,6 +2,8 @@
 //! against a limit. `Comparators` are a source: every question gets exactly the one answer that is defined for them, a
 //! fault from below as it is. A comparator is added after the others, or refused for the first reason that applies, and
 //! then nothing changes. Read `specs/Comparing.antt` first, then `specs/Adding.antt`.
+#![tactic(auto)]
+
 pub mod adding;
 mod comparator;
 mod comparison;

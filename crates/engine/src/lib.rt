@@ -5,6 +5,8 @@
 //! `tick_all` is proved to take the queues from what the definitions say after n ticks to what they say after n + 1, to
 //! store the ends of tick n, and to leave all other memory alone, for every scale and every source. Read
 //! `specs/State.antt` first, then `specs/Ticking.antt`.
+#![tactic(auto)]
+
 mod ask;
 mod ends;
 pub mod fault;

@@ -4,6 +4,8 @@
 //! follow the accepted ones, each verdict issued is the one that the formulas give, issued once and at the first tick
 //! possible, within the rule's worst lag and each node's places. Read `specs/Lives.antt` first, and for the promise itself
 //! `specs/Promises.antt` of the crate `calls`.
+#![tactic(auto)]
+
 pub mod caller;
 mod whole;
 

@@ -3,6 +3,8 @@
 //! totals. What it stands for after any number of ticks is said by `Represents`, and every call by what it makes of that:
 //! an accepted tick puts exactly the records that the definitions owe, and a refused one changes nothing. Read
 //! `specs/Calls.antt` first.
+#![tactic(auto)]
+
 pub mod reading;
 mod rules;
 mod run;

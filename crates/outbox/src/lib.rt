@@ -3,6 +3,8 @@
 //! of these two, once for every outbox, in `specs/Meaning.antt`. A queue in a list of records is one (`ring`), and says
 //! also what becomes of the list; the crate `book` has another, in bytes. What is refused changes nothing. `put_all` and
 //! `take_all` are proved for every outbox at once. Read `specs/Meaning.antt` first.
+#![tactic(auto)]
+
 pub mod fault;
 pub mod ring;
 mod several;

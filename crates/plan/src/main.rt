@@ -1,6 +1,8 @@
 //! What a table of timing rules costs, and how late its verdicts may come: for each node its lags and places, for each
 //! rule its worst lag, and the queue memory and the outbox room that a monitor needs. It shows the power-loss rule, the
 //! same rule with the inner window opened at the trigger by mistake, and a table that is refused.
+#![tactic(auto)]
+
 mod words;
 
 use check::plan::{Plan, check};

@@ -4,6 +4,8 @@
 //! live in one memory, each in a region of its own: what one of them gains (`keep_at`) leaves every other as it was.
 //! What does not fit is refused, and then nothing has changed. Read `specs/Contents.antt` first, then
 //! `specs/Regions.antt`.
+#![tactic(auto)]
+
 mod memory;
 mod methods;
 

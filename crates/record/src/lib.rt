@@ -1,5 +1,6 @@
 //! What is issued: one record tells the verdict of a rule at each position from `first` to `last`. It holds no promise
 //! of its own; what the records of a tick are is defined in the crate `settling`, and where they go in `outbox`.
+#![tactic(auto)]
 
 /// The verdict of a rule at each position from `first` to `last`, told `lag` ticks after position `first`.
 #[derive(Clone, Copy)]

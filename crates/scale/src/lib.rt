@@ -3,6 +3,8 @@
 //! order is total (`TotalOrder`); whatever is argued above this crate uses only the bounds that follow from it
 //! (`Lattice`), so it never leans on two values being comparable. Yes/no is a scale, and the crate `margin` has another.
 //! Read `specs/Order.antt` first.
+#![tactic(auto)]
+
 pub mod yes_no;
 
 ghost use Rattle.std.specs.Prelude.{◌≡◌, ℕ, Some};
@@ -68,7 +70,7 @@ pub fn total_orders_have_bounds<V>() -> u8
 
 /// So has each scale.
 pub fn scales_have_bounds<V: Scale>() -> u8
-    ensures { Lattice scale }
+    ensures { Lattice V.scale }
 {
     0
 }

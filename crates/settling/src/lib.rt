@@ -3,6 +3,8 @@
 //! records are issued (`Records`) and what close counts (`Totals`); they read like the subject and assume no program. Each
 //! function below has no code of its own: its contract is a theorem about those definitions, proved from greatest lower and
 //! least upper bounds alone, so for scales whose values cannot all be compared too. Read `specs/Settled.antt` first.
+#![tactic(auto)]
+
 ghost use Rattle.settling.specs.Formulas.{Monotone, Meant};
 ghost use Rattle.settling.specs.Keeping.{EnoughWaits, HeldInPlaces, WaitingCounted};
 ghost use Rattle.settling.specs.Statements.{Sound, Lasting, Earliest, Bounded, Enclosing, Decided};

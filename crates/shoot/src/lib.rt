@@ -1,1 +1,2 @@
 //! One shot.
+#![tactic(auto)]

@@ -4,6 +4,8 @@
 //! take to be known, what a table costs, when it is accepted and what the check finds in it. That the definition of what
 //! the check finds means what it says stands in `promises`. Read `specs/Values.antt`, `specs/Lags.antt` and
 //! `specs/Places.antt` first, then `specs/Refusals.antt`. The crate `check` has the check itself.
+#![tactic(auto)]
+
 pub mod fault;
 pub mod kind;
 pub mod node;
