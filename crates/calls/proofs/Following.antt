@@ -1,7 +1,7 @@
 -- What a run keeps from call to call: what the monitor stands for, and what was issued. Assumes nothing.
 use Rattle.std.proofs.Common.{◌≡◌, ℕ, suc, ◌+◌, ◌<◌, List, [], ◌∷◌, ◌++◌, Ok, Err, Result, sym, refl, ap, ◌∙◌, subst, arith}
 use Rattle.std.proofs.lemmas.List.{append-nil, append_assoc}
-use Rattle.check.specs.Plans.{table_of}
+use Rattle.table_check.specs.Plans.{table_of}
 use Rattle.record.specs.declared.Record.{Record}
 use Rattle.scale.specs.Order.{Scale}
 use Rattle.source.specs.declared.fault.Fault.{Fault}

@@ -2,8 +2,8 @@
 use Rattle.std.proofs.Common.{◌≡◌, ℕ, zero, suc, ◌+◌, ◌<◌, ◌≤◌, List, [], ◌∷◌, ◌++◌, length, get_or, take, drop, Result, sym, ap, ◌∙◌, subst, arith}
 use native.Mathlib.Decide.{dec_lt}
 use Rattle.std.proofs.lemmas.List.{length_push, take_all, drop_all, take-append-le, drop-append-le}
-use Rattle.check.specs.Plans.{table_of}
-use Rattle.check.proofs.Lawful.{plan_accepted}
+use Rattle.table_check.specs.Plans.{table_of}
+use Rattle.table_check.proofs.Lawful.{plan_accepted}
 use Rattle.scale.specs.Order.{Scale, Lattice}
 use Rattle.source.specs.declared.fault.Fault.{Fault}
 use Rattle.settling.specs.Records.{expected}

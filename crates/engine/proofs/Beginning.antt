@@ -5,11 +5,11 @@ use Rattle.queue.specs.declared.Stand.{Stand}
 use Rattle.queue.specs.Contents.{contents, newest}
 use Rattle.queue.proofs.Newest.{newest_all}
 use Rattle.scale.specs.Order.{Scale, Lattice}
-use Rattle.check.specs.declared.plan.Plan.{Plan}
+use Rattle.table_check.specs.declared.plan.Plan.{Plan}
 use Rattle.table.specs.Places.{places}
-use Rattle.check.specs.Plans.{table_of}
+use Rattle.table_check.specs.Plans.{table_of}
 use Rattle.table.specs.Tables.{Table, size}
-use Rattle.check.proofs.Lawful.{plan_accepted}
+use Rattle.table_check.proofs.Lawful.{plan_accepted}
 use Rattle.settling.specs.Settled.{settled, verdict}
 use Rattle.settling.proofs.Bounding.{bounded}
 use Rattle.engine.specs.declared.state.Core.{Core}

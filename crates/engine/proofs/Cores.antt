@@ -8,7 +8,7 @@ use Rattle.table.specs.Accepting.{Fits}
 use Rattle.table.specs.Kinds.{shape}
 use Rattle.table.specs.Places.{places, need}
 use Rattle.table.specs.Tables.{Table, size, node}
-use Rattle.check.proofs.Lawful.{plan_accepted}
+use Rattle.table_check.proofs.Lawful.{plan_accepted}
 use Rattle.settling.proofs.Nodes.{operands_before}
 use Rattle.engine.specs.declared.keep.Keep.{Keep}
 use Rattle.engine.specs.declared.state.Core.{Core}

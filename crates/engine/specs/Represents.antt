@@ -2,9 +2,9 @@
 use Rattle.std.specs.Prelude.{◌≡◌, ℕ, suc, ◌<◌, List, drop, Result}
 use Rattle.scale.specs.Order.{Scale}
 use Rattle.source.specs.declared.fault.Fault.{Fault}
-use Rattle.check.specs.declared.plan.Plan.{Plan}
+use Rattle.table_check.specs.declared.plan.Plan.{Plan}
 use Rattle.table.specs.Places.{need}
-use Rattle.check.specs.Plans.{table_of}
+use Rattle.table_check.specs.Plans.{table_of}
 use Rattle.table.specs.Tables.{Table, size}
 use Rattle.engine.specs.declared.state.Core.{Core}
 use Rattle.engine.specs.State.{keep_of, AllAt, AllEnds}

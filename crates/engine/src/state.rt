@@ -1,12 +1,12 @@
 //! What a monitor holds besides its memory.
 ghost use Rattle.std.specs.Prelude.{◌≡◌, ℕ, ◌+◌, ◌-◌, ◌<◌, ◌≤◌, max, length};
 ghost use Rattle.table.specs.Places.{places, need};
-ghost use Rattle.check.specs.Plans.{table_of};
+ghost use Rattle.table_check.specs.Plans.{table_of};
 ghost use Rattle.table.specs.Tables.{size};
 ghost use Rattle.engine.specs.State.{keep_of};
 
 use super::keep::Keep;
-use check::plan::Plan;
+use table_check::plan::Plan;
 
 /// The plan, how many ticks are accepted, and the queue of each node: where it lies in the memory, where it stands there,
 /// and how many positions are settled. The queues lie one behind the other, each with its places and two values more for

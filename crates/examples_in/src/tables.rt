@@ -1,5 +1,5 @@
 //! Examples of the check: the limits, the first refusal, and what a refusal leaves.
-use check::plan::{Plan, check};
+use table_check::plan::{Plan, check};
 use std::alloc::{AllocError, Global};
 use std::test::Fail;
 use table::fault::TableFault;

@@ -1,6 +1,6 @@
 -- The whole life of one monitor. Assumes nothing.
 use Rattle.std.specs.Prelude.{◌≡◌, ℕ, ◌⊎◌, List, [], ◌∷◌, ◌++◌, length, Some, None, Option, Result}
-use Rattle.check.specs.declared.plan.Plan.{Plan}
+use Rattle.table_check.specs.declared.plan.Plan.{Plan}
 use Rattle.scale.specs.Order.{Scale}
 use Rattle.source.specs.declared.fault.Fault.{Fault}
 use Rattle.settling.specs.Totals.{Totals}

@@ -8,7 +8,7 @@ ghost use Rattle.life.specs.Lives.{Life, ClosedLife};
 use super::caller::Caller;
 use calls::call::{Answer, Call};
 use calls::make;
-use check::plan::Plan;
+use table_check::plan::Plan;
 use monitor::totals::Totals;
 use monitor::watch::Monitor;
 use outbox::Outbox;

@@ -4,7 +4,7 @@ use Rattle.std.proofs.lemmas.List.{length-take, length-take-le, get_or-take}
 use Rattle.queue.specs.Regions.{Stands}
 use Rattle.table.specs.Places.{need}
 use Rattle.table.specs.Tables.{Table, size, rule_node}
-use Rattle.check.proofs.Lawful.{plan_accepted}
+use Rattle.table_check.proofs.Lawful.{plan_accepted}
 use Rattle.engine.specs.declared.keep.Keep.{Keep}
 use Rattle.engine.specs.declared.state.Core.{Core}
 use Rattle.engine.specs.Represents.{monitored}

@@ -5,7 +5,7 @@ use Rattle.scale.specs.Order.{Scale}
 use Rattle.settling.specs.Settled.{settled}
 use Rattle.settling.specs.Totals.{RuleTotal, rule_total, totals}
 use Rattle.table.specs.Tables.{Table}
-use Rattle.check.proofs.Lawful.{plan_accepted}
+use Rattle.table_check.proofs.Lawful.{plan_accepted}
 use Rattle.engine.specs.declared.state.Core.{Core}
 use Rattle.engine.specs.Represents.{Represents, monitored}
 use Rattle.engine.specs.State.{keep_of}

@@ -2,7 +2,7 @@
 use Rattle.std.proofs.Common.{◌≡◌, ℕ, suc, ◌<◌, leb, List, length, IfOk, Ok, Err, Result, refl, ◌∙◌}
 use Rattle.std.proofs.lemmas.Bool.{leb-false}
 use Rattle.std.specs.Result.{result_err}
-use Rattle.check.proofs.Lawful.{plan_accepted}
+use Rattle.table_check.proofs.Lawful.{plan_accepted}
 use Rattle.scale.specs.Order.{Scale}
 use Rattle.table.specs.Tables.{rule_node}
 use Rattle.engine.specs.declared.state.Core.{Core}

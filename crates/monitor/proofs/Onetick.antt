@@ -8,9 +8,9 @@ use Rattle.record.specs.declared.Record.{Record}
 use Rattle.settling.specs.Records.{tick_records}
 use Rattle.settling.specs.Settled.{settled}
 use Rattle.table.specs.Places.{need, burst}
-use Rattle.check.specs.Plans.{table_of}
+use Rattle.table_check.specs.Plans.{table_of}
 use Rattle.table.specs.Tables.{Table, rule_node}
-use Rattle.check.proofs.Lawful.{plan_accepted}
+use Rattle.table_check.proofs.Lawful.{plan_accepted}
 use Rattle.engine.specs.declared.fault.TickFault.{TickFault}
 use Rattle.engine.specs.declared.state.Core.{Core}
 use Rattle.engine.specs.declared.fault.TickFault.TheVariants.{Memory, Ticks, Room}

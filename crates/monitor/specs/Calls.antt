@@ -6,7 +6,7 @@ use Rattle.settling.specs.Early.{ends}
 use Rattle.settling.specs.Records.{tick_records}
 use Rattle.settling.specs.Totals.{RuleTotal, Totals, rule_total}
 use Rattle.source.specs.declared.fault.Fault.{Fault}
-use Rattle.check.specs.declared.plan.Plan.{Plan}
+use Rattle.table_check.specs.declared.plan.Plan.{Plan}
 use Rattle.table.specs.Places.{need}
 use Rattle.table.specs.Tables.{Table, rule_node}
 use Rattle.engine.specs.declared.state.Core.{Core}

@@ -5,7 +5,7 @@
 
 mod words;
 
-use check::plan::{Plan, check};
+use table_check::plan::{Plan, check};
 use std::alloc::{AllocError, Global};
 use std::io;
 use table::fault::TableFault;

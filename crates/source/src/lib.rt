@@ -35,20 +35,20 @@ pub trait Source {
 
     /// How many ticks there are.
     fn length(&self) -> usize
-        ensures { result ≡ (Frames self.now).long };
+        ensures { result ≡ (frames self.now).long };
 
     /// How many samples each tick has.
     fn width(&self) -> usize
-        ensures { result ≡ (Frames self.now).wide };
+        ensures { result ≡ (frames self.now).wide };
 
     /// The value of a sample at a tick, or the fault in its place.
     fn ask(&self, tick: usize, sample: usize) -> Result<Self::Value, Fault>
-        ensures { result ≡ answer layer (Frames self.now) tick sample };
+        ensures { result ≡ answer layer (frames self.now) tick sample };
 }
 
 /// The first fault among the answers for these samples at the tick, in their order.
 pub fn first_fault<S: Source>(source: &S, tick: usize, samples: &[usize]) -> Option<Fault>
-    ensures { result ≡ first_fault (answer S.layer (Frames source.now) tick) samples.now }
+    ensures { result ≡ first_fault (answer S.layer (S.frames source.now) tick) samples.now }
 {
     for sample in samples {
         if let Err(fault) = source.ask(tick, *sample) {

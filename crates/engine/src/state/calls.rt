@@ -13,7 +13,7 @@ use super::super::keep::{Keep, keep_of};
 use super::super::lay::lay_out;
 use super::super::tick::tick_all;
 use super::Core;
-use check::plan::Plan;
+use table_check::plan::Plan;
 use scale::Scale;
 use source::Source;
 

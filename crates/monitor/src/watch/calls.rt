@@ -13,7 +13,7 @@ use super::super::reading::{ReadFault, read_ends};
 use super::super::run::run_tick;
 use super::super::totals::{Totals, total_up};
 use super::Monitor;
-use check::plan::Plan;
+use table_check::plan::Plan;
 use engine::fault::TickFault;
 use engine::state::Core;
 use outbox::Outbox;

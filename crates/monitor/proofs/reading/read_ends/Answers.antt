@@ -1,14 +1,14 @@
 use Rattle.std.proofs.Common.{◌≡◌, ◌<◌, length, get_or, ap, ◌∙◌, ap₂, arith}
-use Rattle.check.specs.Plans.{table_of}
-use Rattle.check.proofs.Lawful.{plan_accepted}
+use Rattle.table_check.specs.Plans.{table_of}
+use Rattle.table_check.proofs.Lawful.{plan_accepted}
 use Rattle.table.specs.Tables.{rule_node}
 use Rattle.engine.specs.declared.keep.Keep.{Keep}
 use Rattle.engine.specs.Represents.{monitored}
 use Rattle.engine.specs.State.{keep_of}
 use Rattle.monitor.proofs.reading.read_ends.Goals as goal
 
-pub overflow-add-slot : goal.overflow-add-slot
-overflow-add-slot g c =
+pub overflow_add-slot : goal.overflow_add-slot
+overflow_add-slot g c =
     let core = c.args.core.now in
     let rule = c.args.rule in
     let accepted = plan_accepted core.plan in

@@ -1,5 +1,5 @@
 use Rattle.std.proofs.Common.{◌-◌, length, sym, ap, ◌∙◌, subst, arith}
-use Rattle.check.specs.Plans.{table_of}
+use Rattle.table_check.specs.Plans.{table_of}
 use Rattle.monitor.specs.Issuing.{RulesStand}
 use Rattle.monitor.proofs.Copied.{rules_stand}
 use Rattle.monitor.proofs.rules.issue.Goals as goal

@@ -1,5 +1,5 @@
 use Rattle.std.proofs.Common.{ap, ◌∙◌, arith}
-use Rattle.check.specs.Plans.{table_of}
+use Rattle.table_check.specs.Plans.{table_of}
 use Rattle.engine.specs.Represents.{monitored}
 use Rattle.engine.specs.State.{keep_of}
 use Rattle.monitor.proofs.Copied.{copied_inside, copied_rule}

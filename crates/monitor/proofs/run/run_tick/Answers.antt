@@ -2,7 +2,7 @@ use Rattle.std.proofs.Common.{◌≡◌, ◌≤◌, ltb, length, sym, ap, ◌∙
 use Rattle.std.proofs.lemmas.Bool.{ltb-false}
 use Rattle.source.specs.Frames.{answer}
 use Rattle.table.specs.Places.{burst}
-use Rattle.check.specs.Plans.{table_of}
+use Rattle.table_check.specs.Plans.{table_of}
 use Rattle.engine.specs.Refusals.{tick_fault}
 use Rattle.engine.specs.Represents.{monitored}
 use Rattle.monitor.proofs.Onetick.{enough_room, all_issued_by}

@@ -6,8 +6,8 @@ use Rattle.outbox.proofs.several.take_all.Goals as goal
 pub loop-i-init : goal.loop-i-init
 loop-i-init g c = (omega arith, refl, refl, omega arith)
 
-pub offset-bounds-places-i : goal.offset-bounds-places-i
-offset-bounds-places-i g c = scaled_Fits c.loop-i.i (length c.args.places.now) _ c.loop-i-test.true (search rules)
+pub offset_bounds-places-i : goal.offset_bounds-places-i
+offset_bounds-places-i g c = scaled_Fits c.loop-i.i (length c.args.places.now) _ c.loop-i-test.true (search rules)
 
 pub bounds-places-i : goal.bounds-places-i
 bounds-places-i g c = omega (arith, c.loop-i-test.true)

@@ -7,8 +7,8 @@ use Rattle.comparators.proofs.scaled.Scaled.shifted.Goals as goal
 widened : (c : goal.After-from) → c.from.result ≡ c.args.value.value
 widened c = omega (arith, ints, c.from.ensures, c.get.ensures, c.args.value.low, c.args.value.high)
 
-pub overflow-mul-result : goal.overflow-mul-result
-overflow-mul-result c =
+pub overflow_mul-result : goal.overflow_mul-result
+overflow_mul-result c =
     made_fits c.args.self.shift c.args.value.value c.from.result c.args.self.small c.args.value.low c.args.value.high (widened c)
 
 pub returns : goal.returns

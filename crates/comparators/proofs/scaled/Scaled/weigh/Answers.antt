@@ -3,8 +3,8 @@ use Rattle.comparators.specs.Terms.{Narrow}
 use Rattle.comparators.proofs.Scaling.{kept, turned_fits, turned, turned_narrow, weighed_minus, weighed_zero, weighed_plus, zero_narrow}
 use Rattle.comparators.proofs.scaled.Scaled.weigh.Goals as goal
 
-pub overflow-sub-result : goal.overflow-sub-result
-overflow-sub-result c = turned_fits c.shifted-shifted.result c.shifted-shifted.ensures.narrow
+pub overflow_sub-result : goal.overflow_sub-result
+overflow_sub-result c = turned_fits c.shifted-shifted.result c.shifted-shifted.ensures.narrow
 
 pub returns-in-Minus : goal.returns-in-Minus
 returns-in-Minus c =

@@ -1,5 +1,5 @@
 use Rattle.std.proofs.Common.{arith}
-use Rattle.check.specs.Plans.{table_of}
+use Rattle.table_check.specs.Plans.{table_of}
 use Rattle.engine.proofs.Laying.{laid_rising, laid_inside, laid_ordered, laid_roomy, laid_holds, laid_begins, laid_unsettled}
 use Rattle.engine.proofs.state.Core.new.Goals as goal
 

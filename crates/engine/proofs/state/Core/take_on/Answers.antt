@@ -4,7 +4,7 @@ use Rattle.table.specs.Places.{need as need_of}
 use Rattle.engine.specs.Represents.{monitored}
 use Rattle.engine.specs.State.{AllAt, AllEnds}
 use Rattle.engine.specs.Ticking.{Sound, Asked, Ticked}
-use Rattle.check.proofs.Lawful.{plan_accepted}
+use Rattle.table_check.proofs.Lawful.{plan_accepted}
 use Rattle.engine.proofs.Cores.{queues_sound, still_rising, still_inside, still_ordered, still_roomy, still_holds, still_begins, still_counted}
 use Rattle.engine.proofs.Wholetick.{beyond_kept}
 use Rattle.engine.proofs.state.Core.take_on.Goals as goal

@@ -1,5 +1,0 @@
-use Rattle.check.proofs.Nodewise.{Judging}
-use Rattle.check.proofs.judge.judge_nodes.Given as goal
-
-abbrev pub invariant-loop-k : goal.invariant-loop-k
-invariant-loop-k l = Judging l.written l.k l.nodes l.lags

@@ -1,7 +1,0 @@
-use Rattle.std.proofs.Common.{◌≡◌, ℕ, ◌<◌, None}
-use Rattle.check.specs.Judging.{of_lists}
-use Rattle.table.specs.Refusals.{first, use_tests}
-use Rattle.check.proofs.rules.find_unused.Given as goal
-
-abbrev pub invariant-loop-k : goal.invariant-loop-k
-invariant-loop-k l = (j : ℕ) → j < l.k → first (use_tests (of_lists l.nodes l.rules) j) ≡ None

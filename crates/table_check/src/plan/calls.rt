@@ -1,0 +1,148 @@
+//! The check, which fills a plan, and what can be asked of a plan.
+ghost use Rattle.std.specs.Prelude.{◌≡◌, ℕ, ◌<◌, ◌≤◌, [], ◌∷◌, length, take, IfOk, MatchResult, slice_index};
+ghost use Rattle.std.specs.Result.{result_err};
+ghost use Rattle.table_check.specs.Judging.{of_lists, nodes_meant, found, last_fault, PassedSoFar};
+ghost use Rattle.table.specs.Lags.{lags as lags_of};
+ghost use Rattle.table.specs.Places.{places as places_of, need as need_of, burst as burst_of};
+ghost use Rattle.table_check.specs.Plans.{table_of};
+ghost use Rattle.table.specs.Refusals.{checked};
+ghost use Rattle.table.specs.Tables.{blank, size as type_size, meant};
+
+use super::super::judge::{BLANK, Judged, judge_nodes};
+use super::super::lags::AT_ONCE;
+use super::super::places::{Cost, cost_of};
+use super::super::rules::{find_unused, name_nodes};
+use super::Plan;
+use table::fault::TableFault;
+use table::node::{Lag, Node, UncheckedNode, UncheckedTable};
+
+impl Plan {
+    /// The plan that is built in: sample 0 alone, as the one rule.
+    pub fn of_sample_0() -> Plan
+        ensures { table_of result ≡ of_lists (blank ∷ []) (0 ∷ []) }
+    {
+        let mut places = [0; 64];
+        places[0] = 1;
+        Plan {
+            nodes: [BLANK; 64],
+            size: 1,
+            rules: [0; 16],
+            count: 1,
+            lags: [AT_ONCE; 64],
+            places,
+            need: 3,
+            burst: 1,
+        }
+    }
+
+    /// The nodes of the table.
+    pub fn nodes(&self) -> &[Node]
+        ensures { result.now ≡ (table_of self.now).nodes }
+    {
+        &self.nodes[0..self.size]
+    }
+
+    /// The rules of the table, each the number of a node.
+    pub fn rules(&self) -> &[u8]
+        ensures { result.now ≡ (table_of self.now).rules }
+    {
+        &self.rules[0..self.count]
+    }
+
+    /// A copy of the rules, and how many of its places they fill.
+    pub fn copy_rules(&self) -> ([u8; 16], usize)
+        ensures rules { take result.1 result.0 ≡ (table_of self.now).rules }
+        ensures few { result.1 ≤ 16 }
+    {
+        (self.rules, self.count)
+    }
+
+    /// The lag of each node.
+    pub fn lags(&self) -> &[Lag]
+        ensures { result.now ≡ lags_of (table_of self.now).nodes }
+    {
+        &self.lags[0..self.size]
+    }
+
+    /// How many of its newest positions each node keeps.
+    pub fn places(&self) -> &[u32]
+        ensures len { length result.now ≡ type_size (table_of self.now) }
+        ensures places { (k : ℕ) → k < length result.now → slice_index result.now k ≡ places_of (table_of self.now) k }
+    {
+        &self.places[0..self.size]
+    }
+
+    /// The queue memory that a monitor of this table needs, in scale values.
+    pub fn need(&self) -> u32
+        ensures { result ≡ need_of (table_of self.now) }
+    {
+        self.need
+    }
+
+    /// The most records that one tick may issue.
+    pub fn burst(&self) -> u32
+        ensures { result ≡ burst_of (table_of self.now) }
+    {
+        self.burst
+    }
+}
+
+/// Fills the plan with this table, or refuses it by its first fault and leaves the plan as it was.
+pub fn check(table: &UncheckedTable, plan: &mut Plan) -> Result<(), TableFault>
+    ensures fault { result_err result ≡ checked table.now }
+    ensures plan { MatchResult result (λ _. table_of plan.new ≡ meant table.now) (λ _. plan.new ≡ plan.old) }
+{
+    *plan = plan_of(table.nodes.as_slice(), table.rules.as_slice())?;
+    Ok(())
+}
+
+/// The plan of these nodes and rules, or their first fault.
+fn plan_of(written: &[UncheckedNode], rules: &[u16]) -> Result<Plan, TableFault>
+    ensures fault { result_err result ≡ found written.now rules.now }
+    ensures plan { IfOk result (λ p. table_of p ≡ of_lists (nodes_meant written.now) rules.now) }
+{
+    let size = written.len();
+    if size == 0 || size > 64 {
+        return Err(TableFault::NodeCount);
+    }
+    let count = rules.len();
+    if count == 0 || count > 16 {
+        return Err(TableFault::RuleCount);
+    }
+    let judged = judge_nodes(written)?;
+    let named = name_nodes(rules, size)?;
+    finish(judged, size, named, count)
+}
+
+/// The plan of nodes and rules that passed so far, or what is still wrong with them: an unused node, or too much memory.
+fn finish(judged: Judged, size: usize, rules: [u8; 16], count: usize) -> Result<Plan, TableFault>
+    requires few { size ≤ 64 }
+    requires ruled { count ≤ 16 }
+    requires whole { length (take size judged.nodes) ≡ size }
+    requires lags { take size judged.lags ≡ lags_of (take size judged.nodes) }
+    requires passed { PassedSoFar (of_lists (take size judged.nodes) (take count rules)) }
+    ensures fault { result_err result ≡ last_fault (of_lists (take size judged.nodes) (take count rules)) }
+    ensures plan { IfOk result (λ p. table_of p ≡ of_lists (take size judged.nodes) (take count rules)) }
+{
+    let Judged { nodes, lags } = judged;
+    find_unused(&nodes[0..size], &rules[0..count])?;
+    let cost = cost_of(&nodes[0..size], &lags[0..size], &rules[0..count]);
+    let Cost {
+        places,
+        need,
+        burst,
+    } = cost;
+    if need > 16384 {
+        return Err(TableFault::TooMuchMemory);
+    }
+    Ok(Plan {
+        nodes,
+        size,
+        rules,
+        count,
+        lags,
+        places,
+        need,
+        burst,
+    })
+}
