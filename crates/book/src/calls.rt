@@ -15,7 +15,7 @@ use record::Record;
 impl<'a, V: Readable> Book<'a, V> {
     /// A book over these bytes, which stay as they are. Nothing waits in it.
     pub fn new(bytes: &'a mut [u8]) -> Book<'a, V>
-        ensures waiting { waiting_in V.Scale.scale decoded result ≡ [] }
+        ensures waiting { waiting_in V.Scale.scale V.decoded result ≡ [] }
         ensures put { ever_put result ≡ 0 }
         ensures bytes { lent result ≡ bytes.old }
         ensures lends { result.bytes.ghost_name ≡ bytes.entry.ghost_name }
@@ -41,7 +41,7 @@ impl<'a, V: Readable> Outbox<V> for Book<'a, V> {
     }
 
     fn put(&mut self, record: &Record<V>) -> Result<(), PutFault>
-        ensures outbox { Puts (waiting_in V.Scale.scale decoded) pages_free self.old self.new «record».now result }
+        ensures outbox { Puts (waiting_in V.Scale.scale V.decoded) pages_free self.old self.new «record».now result }
         ensures bytes { MatchResult result (λ _. lent self.new ≡ with_page (lent self.old) (ever_put self.old) (stored V.Scale.coded «record».now)) (λ _. lent self.new ≡ lent self.old) }
         ensures put { MatchResult result (λ _. ever_put self.new ≡ ever_put self.old + 1) (λ _. ever_put self.new ≡ ever_put self.old) }
         ensures lends { self.new.bytes.ghost_name ≡ self.old.bytes.ghost_name }
@@ -56,7 +56,7 @@ impl<'a, V: Readable> Outbox<V> for Book<'a, V> {
     }
 
     fn take(&mut self) -> Result<Record<V>, TakeFault>
-        ensures outbox { Takes (waiting_in V.Scale.scale decoded) pages_free self.old self.new (λ _. 0) result }
+        ensures outbox { Takes (waiting_in V.Scale.scale V.decoded) pages_free self.old self.new (λ _. 0) result }
         ensures bytes { lent self.new ≡ lent self.old }
         ensures put { ever_put self.new ≡ ever_put self.old }
         ensures lends { self.new.bytes.ghost_name ≡ self.old.bytes.ghost_name }

@@ -8,7 +8,7 @@ use scale::Scale;
 
 /// The 16 bytes of a record: rule, a zero byte, the code of its value, first, last and lag, each with its big end first.
 pub fn stored<V: Scale>(record: &Record<V>) -> [u8; 16]
-    ensures { result ≡ stored coded «record».now }
+    ensures { result ≡ stored V.coded «record».now }
 {
     let Record {
         rule,
@@ -29,7 +29,7 @@ pub fn stored<V: Scale>(record: &Record<V>) -> [u8; 16]
 /// The record in these 16 bytes.
 pub(crate) fn restored<V: Readable>(page: &[u8]) -> Record<V>
     requires { length page.now ≡ 16 }
-    ensures { result ≡ restored (value_of V.Scale.scale decoded) page.now }
+    ensures { result ≡ restored (value_of V.Scale.scale V.decoded) page.now }
 {
     let code = u16::from_be_bytes([page[2], page[3]]);
     // A stored code always has its value; the lowest stands for a code that no record was stored with.

@@ -27,7 +27,7 @@ impl<'a, V: Readable> Book<'a, V> {
     /// The record on the page after those of all records taken.
     pub(crate) fn oldest(&self) -> Record<V>
         requires { self.now.taken < ever_put self.now }
-        ensures { result ≡ restored (value_of V.Scale.scale decoded) (page_at (lent self.now) self.now.taken) }
+        ensures { result ≡ restored (value_of V.Scale.scale V.decoded) (page_at (lent self.now) self.now.taken) }
     {
         let from = 16 * self.taken;
         let to = from + 16;

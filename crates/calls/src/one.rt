@@ -17,7 +17,7 @@ pub fn make<'m, V: Scale, S: Source<Value = V>, O: Outbox<V>>(
     outbox: &mut O,
     call: Call,
 ) -> Answer<V>
-    ensures step { Step V.Scale.scale (answer layer (frames source.now)) (box_of waiting free regained) (state_of monitor.old outbox.old) (state_of monitor.new outbox.new) call result }
+    ensures step { Step V.Scale.scale (answer S.layer (S.frames source.now)) (box_of O.waiting O.free O.regained) (state_of monitor.old outbox.old) (state_of monitor.new outbox.new) call result }
     ensures lends { monitor.new.memory.ghost_name ≡ monitor.old.memory.ghost_name }
 {
     match call {

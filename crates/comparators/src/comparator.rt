@@ -54,7 +54,7 @@ impl Comparator {
 
     /// Yes if the sum meets the limit; a fault from below as it is, the first term's first.
     pub fn judge<S: Source<Value = Margin>>(self, below: &S, tick: usize) -> Result<YesNo, Fault>
-        ensures { result ≡ compared (answer layer (frames below.now) tick) self }
+        ensures { result ≡ compared (answer S.layer (S.frames below.now) tick) self }
     {
         let first = self.first.work_out(below, tick)?;
         let second = self.second.work_out(below, tick)?;

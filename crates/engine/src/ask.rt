@@ -19,7 +19,7 @@ pub(crate) fn is_sample(kind: Kind) -> bool
 
 /// Asks for the sample of each sample node, upward; the first fault is the answer.
 pub(crate) fn ask_all<S: Source>(nodes: &[Node], source: &S, n: usize) -> Result<(), Fault>
-    ensures { result_err result ≡ first_fault (answer layer (frames source.now) n) (samples_of nodes.now) }
+    ensures { result_err result ≡ first_fault (answer S.layer (S.frames source.now) n) (samples_of nodes.now) }
 {
     for node in nodes {
         if is_sample(node.kind) {

@@ -25,7 +25,7 @@ fn from_slots<V: Scale>(
     requires inside { (left < length memory.now) × (right < length memory.now) }
     requires small { n < 2 ^ 24 }
     requires window { node.from ≤ node.to }
-    ensures { result ≡ from_slots scale memory.now node left right n other }
+    ensures { result ≡ from_slots V.Scale.scale memory.now node left right n other }
 {
     let one = Stand { head: 0, len: 1 };
     let left = Keep {
@@ -58,8 +58,8 @@ fn ends_of<V: Scale>(
     requires inside { (left.to + 2 ≤ length memory.now) × (right.to + 2 ≤ length memory.now) }
     requires small { n < 2 ^ 24 }
     requires window { node.from ≤ node.to }
-    ensures lower { result.0 ≡ (ends_from scale memory.now node own left right n).lower }
-    ensures upper { result.1 ≡ (ends_from scale memory.now node own left right n).upper }
+    ensures lower { result.0 ≡ (ends_from V.Scale.scale memory.now node own left right n).lower }
+    ensures upper { result.1 ≡ (ends_from V.Scale.scale memory.now node own left right n).upper }
 {
     let shape = node.kind.shape();
     match shape.sort {
@@ -93,8 +93,8 @@ pub(crate) fn ends_all<V: Scale>(nodes: &[Node], n: usize, memory: &mut [V], kee
     requires small { n < 2 ^ 24 }
     requires sound { Sound nodes.now keeps.now (length memory.old) (suc n) }
     ensures others { AllButEndsKept keeps.now (length nodes.now) memory.old memory.new }
-    ensures queues { StillAt scale nodes.now (suc n) memory.old memory.new keeps.now }
-    ensures stored { EndsStored scale nodes.now n memory.old memory.new keeps.now }
+    ensures queues { StillAt V.Scale.scale nodes.now (suc n) memory.old memory.new keeps.now }
+    ensures stored { EndsStored V.Scale.scale nodes.now n memory.old memory.new keeps.now }
 {
     for k in 0..nodes.len() {
         let node = nodes[k];

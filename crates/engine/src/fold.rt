@@ -12,7 +12,7 @@ use scale::Scale;
 /// The greatest from `a` up to the position before `b`.
 pub(crate) fn greatest_in<V: Scale>(memory: &[V], keep: Keep, a: usize, b: usize, other: V) -> V
     requires { Stands (length memory.now) keep.from keep.to keep.at }
-    ensures { result ≡ greatest scale a b (reading other memory.now keep) }
+    ensures { result ≡ greatest V.Scale.scale a b (reading other memory.now keep) }
 {
     let mut most = V::lowest();
     for p in a..b {
@@ -24,7 +24,7 @@ pub(crate) fn greatest_in<V: Scale>(memory: &[V], keep: Keep, a: usize, b: usize
 /// The least from `a` up to the position before `b`.
 pub(crate) fn least_in<V: Scale>(memory: &[V], keep: Keep, a: usize, b: usize, other: V) -> V
     requires { Stands (length memory.now) keep.from keep.to keep.at }
-    ensures { result ≡ least scale a b (reading other memory.now keep) }
+    ensures { result ≡ least V.Scale.scale a b (reading other memory.now keep) }
 {
     let mut least = V::highest();
     for p in a..b {
@@ -47,7 +47,7 @@ pub(crate) fn until_in<V: Scale>(
     requires right { Stands (length memory.now) right.from right.to right.at }
     requires small { (i < 2 ^ 32) × (to < 2 ^ 16) }
     requires window { from ≤ to }
-    ensures { result ≡ greatest scale from (to + 1) (until_at scale (reading other memory.now left) (reading other memory.now right) i from) }
+    ensures { result ≡ greatest V.Scale.scale from (to + 1) (until_at V.Scale.scale (reading other memory.now left) (reading other memory.now right) i from) }
 {
     let mut most = V::lowest();
     let mut run = V::highest();
@@ -72,7 +72,7 @@ pub(crate) fn since_in<V: Scale>(
     requires right { Stands (length memory.now) right.from right.to right.at }
     requires small { (i < 2 ^ 32) × (to < 2 ^ 16) }
     requires window { from ≤ to }
-    ensures { result ≡ greatest scale from (min to i + 1) (since_at scale (reading other memory.now left) (reading other memory.now right) i) }
+    ensures { result ≡ greatest V.Scale.scale from (min to i + 1) (since_at V.Scale.scale (reading other memory.now left) (reading other memory.now right) i) }
 {
     let mut most = V::lowest();
     if i < from {

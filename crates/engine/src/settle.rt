@@ -14,7 +14,7 @@ use table::node::Node;
 
 /// Whether two values are the same: each is at most the other.
 pub fn agree<V: Scale>(a: V, b: V) -> bool
-    ensures { result ≡ same scale a b }
+    ensures { result ≡ same V.Scale.scale a b }
 {
     a.at_most(b) && b.at_most(a)
 }
@@ -51,7 +51,7 @@ fn settle_now<V: Scale>(
     requires small { own.count < 2 ^ 32 }
     requires window { node.from ≤ node.to }
     requires prompt { at_once node.kind ≡ true }
-    ensures { Settles scale sample memory.old memory.new node own result left right n }
+    ensures { Settles V.Scale.scale sample memory.old memory.new node own result left right n }
 {
     let value = work_out(sample, memory, node, left, right, own.count, V::lowest());
     keep_next(memory, own, value)
@@ -74,7 +74,7 @@ fn settle_later<V: Scale>(
     requires small { (n < 2 ^ 24) × (own.count ≤ n) }
     requires window { node.from ≤ node.to }
     requires later { at_once node.kind ≡ false }
-    ensures { Settles scale sample memory.old memory.new node own result left right n }
+    ensures { Settles V.Scale.scale sample memory.old memory.new node own result left right n }
 {
     let mut keep = own;
     while keep.count <= n {
@@ -104,7 +104,7 @@ pub(crate) fn settle<V: Scale>(
     requires apart { at_once node.kind ≡ false → Apart own.from own.to left.from left.to × Apart own.from own.to right.from right.to }
     requires small { (n < 2 ^ 24) × (own.count ≤ n) }
     requires window { node.from ≤ node.to }
-    ensures { Settles scale sample memory.old memory.new node own result left right n }
+    ensures { Settles V.Scale.scale sample memory.old memory.new node own result left right n }
 {
     match node.kind.shape().sort {
         Sort::Leaf | Sort::Back => settle_now(sample, memory, node, own, left, right, n),

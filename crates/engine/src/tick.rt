@@ -13,7 +13,7 @@ use table::node::Node;
 
 /// The sample that a source answers with; the lowest value stands for a fault.
 fn sample_at<S: Source>(source: &S, n: usize, sample: u16) -> S::Value
-    ensures { result ≡ sample_in S.Value.Scale.scale (answer layer (frames source.now) n sample) }
+    ensures { result ≡ sample_in S.Value.Scale.scale (answer S.layer (S.frames source.now) n sample) }
 {
     match source.ask(n, usize::from(sample)) {
         Ok(value) => value,
@@ -23,7 +23,7 @@ fn sample_at<S: Source>(source: &S, n: usize, sample: u16) -> S::Value
 
 /// The sample of a node at tick `n`; a node that is no sample has none.
 fn sample_of<S: Source>(source: &S, n: usize, node: Node) -> S::Value
-    ensures { result ≡ sample_of S.Value.Scale.scale (answer layer (frames source.now) n) node }
+    ensures { result ≡ sample_of S.Value.Scale.scale (answer S.layer (S.frames source.now) n) node }
 {
     if is_sample(node.kind) {
         return sample_at(source, n, node.left);
@@ -44,7 +44,7 @@ pub(crate) fn settle_all<V: Scale, S: Source<Value = V>>(
     ensures sound { Sound nodes.now keeps.new (length memory.new) (suc n) }
     ensures regions { SameRegions keeps.old keeps.new }
     ensures others { OthersKept keeps.old (length nodes.now) memory.old memory.new }
-    ensures next { TakenOn V.Scale.scale (answer layer (frames source.now) n) nodes.now n memory.old memory.new keeps.old keeps.new }
+    ensures next { TakenOn V.Scale.scale (answer S.layer (S.frames source.now) n) nodes.now n memory.old memory.new keeps.old keeps.new }
 {
     for k in 0..nodes.len() {
         let node = nodes[k];
@@ -69,7 +69,7 @@ pub(crate) fn tick_all<V: Scale, S: Source<Value = V>>(
     ensures sound { Sound nodes.now keeps.new (length memory.new) (suc n) }
     ensures regions { SameRegions keeps.old keeps.new }
     ensures others { AroundNodesKept keeps.old (length nodes.now) memory.old memory.new }
-    ensures next { WholeTick V.Scale.scale (answer layer (frames source.now) n) nodes.now n memory.old memory.new keeps.old keeps.new }
+    ensures next { WholeTick V.Scale.scale (answer S.layer (S.frames source.now) n) nodes.now n memory.old memory.new keeps.old keeps.new }
 {
     settle_all(nodes, source, n, memory, keeps);
     ends_all(nodes, n, memory, keeps);

@@ -24,7 +24,7 @@ pub(crate) fn work_out<V: Scale>(
     requires right { Stands (length memory.now) right.from right.to right.at }
     requires small { i < 2 ^ 32 }
     requires window { node.from ≤ node.to }
-    ensures { result ≡ worked scale sample memory.now node left right other i }
+    ensures { result ≡ worked V.Scale.scale sample memory.now node left right other i }
 {
     let from = node.from as usize;
     let to = node.to as usize;

@@ -26,7 +26,7 @@ pub fn live_on<'m, V: Scale, S: Source<Value = V>, O: Outbox<V>, C: Caller<Optio
     caller: &mut C,
     log: &mut Vec<(Call, Answer<V>)>,
 ) -> Monitor<'m, V>
-    ensures life { Life V.Scale.scale (answer layer (frames source.now)) (box_of waiting free regained) names after plan memory.old outbox.old (vec_capacity log.old - vec_len log.old) caller.old caller.new log.old.items log.new.items (state_of result outbox.new) }
+    ensures life { Life V.Scale.scale (answer S.layer (S.frames source.now)) (box_of O.waiting O.free O.regained) C.names C.after plan memory.old outbox.old (vec_capacity log.old - vec_len log.old) caller.old caller.new log.old.items log.new.items (state_of result outbox.new) }
     ensures lends { result.memory.ghost_name ≡ memory.entry.ghost_name }
 {
     let mut monitor = Monitor::set_up(plan, memory);
@@ -54,7 +54,7 @@ pub fn live_closed<V: Scale, S: Source<Value = V>, O: Outbox<V>, C: Caller<Optio
     caller: &mut C,
     log: &mut Vec<(Call, Answer<V>)>,
 ) -> Totals
-    ensures { ClosedLife V.Scale.scale (answer layer (frames source.now)) (box_of waiting free regained) names after plan memory.old memory.new outbox.old outbox.new (vec_capacity log.old - vec_len log.old) caller.old caller.new log.old.items log.new.items (as_totals result) }
+    ensures { ClosedLife V.Scale.scale (answer S.layer (S.frames source.now)) (box_of O.waiting O.free O.regained) C.names C.after plan memory.old memory.new outbox.old outbox.new (vec_capacity log.old - vec_len log.old) caller.old caller.new log.old.items log.new.items (as_totals result) }
 {
     let monitor = live_on(plan, memory, source, outbox, caller, log);
     monitor.close()
@@ -70,7 +70,7 @@ pub fn live<V: Scale, S: Source<Value = V>, O: Outbox<V>, C: Caller<Option<Answe
     caller: &mut C,
     most: usize,
 ) -> Result<(Vec<(Call, Answer<V>)>, Totals), AllocError>
-    ensures { MatchResult result (λ p. ((room : ℕ) × ((most ≤ room) × ClosedLife V.Scale.scale (answer layer (frames source.now)) (box_of waiting free regained) names after plan memory.old memory.new outbox.old outbox.new room caller.old caller.new [] p.0.items (as_totals p.1)))) (λ _. (memory.new ≡ memory.old) × (outbox.new ≡ outbox.old) × (caller.new ≡ caller.old)) }
+    ensures { MatchResult result (λ p. ((room : ℕ) × ((most ≤ room) × ClosedLife V.Scale.scale (answer S.layer (S.frames source.now)) (box_of O.waiting O.free O.regained) C.names C.after plan memory.old memory.new outbox.old outbox.new room caller.old caller.new [] p.0.items (as_totals p.1)))) (λ _. (memory.new ≡ memory.old) × (outbox.new ≡ outbox.old) × (caller.new ≡ caller.old)) }
 {
     let mut log: Vec<(Call, Answer<V>)> = match Vec::with_capacity(heap, most) {
         Ok(log) => log,

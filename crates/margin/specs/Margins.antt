@@ -2,7 +2,7 @@
 use Rattle.std.specs.Prelude.{◌≡◌, ℕ, ◌<◌, Bool, true, false, ◌⊎◌, ℤ, pos, negsuc, neg_ℤ, ◌≤ℤ◌, int_le, refl}
 use Rattle.std.proofs.Common.{ap, inl, inr, ⊎_elim, arith, of_z}
 use mathlib.Core.HLevel.{is_prop→PathP}
-use denote.Struct.Props.{≤ℤ_prop}
+use Rattle.std.proofs.Props.{props}
 use Rattle.std.specs.Int.{w16}
 use Rattle.std.proofs.lemmas.Int.{ints}
 use Rattle.std.proofs.lemmas.Bool.{cases_Bool}
@@ -15,8 +15,8 @@ use Rattle.margin.specs.declared.Margin.{Margin}
 pub same_number : (x y : Margin) → x.value ≡ y.value → x ≡ y
 same_number x y e = λ i. record {
   value = e i;
-  low = is_prop→PathP (λ j. negsuc 32766 ≤ℤ e j) (λ j. ≤ℤ_prop) x.low y.low i;
-  high = is_prop→PathP (λ j. e j ≤ℤ pos 32767) (λ j. ≤ℤ_prop) x.high y.high i;
+  low = is_prop→PathP (λ j. negsuc 32766 ≤ℤ e j) (λ j. hlevel props) x.low y.low i;
+  high = is_prop→PathP (λ j. e j ≤ℤ pos 32767) (λ j. hlevel props) x.high y.high i;
 }
 
 other_way : (x y : ℤ) → int_le x y ≡ false → int_le y x ≡ true

@@ -31,7 +31,7 @@ impl ReadFault {
 
 /// What stands in a slot; the lowest value where there is none.
 fn value_at<V: Scale>(memory: &[V], slot: usize) -> V
-    ensures { result ≡ slice_index_or memory.now slot scale.lowest }
+    ensures { result ≡ slice_index_or memory.now slot V.Scale.scale.lowest }
 {
     match memory.get(slot) {
         Some(value) => *value,
@@ -42,8 +42,8 @@ fn value_at<V: Scale>(memory: &[V], slot: usize) -> V
 /// The lower and the upper end of a rule's node at the last tick, as they stand behind its queue.
 pub(crate) fn read_ends<V: Scale>(core: &Core, memory: &[V], rule: u8) -> Result<(V, V), ReadFault>
     ensures fault { result_err result ≡ read_fault (monitored core.now) core.now.ticks rule }
-    ensures lower { IfOk result (λ e. e.0 ≡ stored_lower scale core.now memory.now rule) }
-    ensures upper { IfOk result (λ e. e.1 ≡ stored_upper scale core.now memory.now rule) }
+    ensures lower { IfOk result (λ e. e.0 ≡ stored_lower V.Scale.scale core.now memory.now rule) }
+    ensures upper { IfOk result (λ e. e.1 ≡ stored_upper V.Scale.scale core.now memory.now rule) }
 {
     let rules = core.plan().rules();
     let r = rule as usize;

@@ -21,8 +21,8 @@ pub(crate) fn run_tick<V: Scale, S: Source<Value = V>, O: Outbox<V>>(
     source: &S,
     outbox: &mut O,
 ) -> Result<(), TickFault>
-    ensures fault { result_err result ≡ tick_fault (monitored core.old) core.old.ticks (length memory.old) (nat_lt (free outbox.old) (burst (monitored core.old))) (answer layer (frames source.now) core.old.ticks) }
-    ensures outcome { MatchResult result (λ _. Ran V.Scale.scale (answer layer (frames source.now) core.old.ticks) waiting free core.old core.new memory.old memory.new outbox.old outbox.new) (λ _. (core.new ≡ core.old) × (memory.new ≡ memory.old) × (outbox.new ≡ outbox.old)) }
+    ensures fault { result_err result ≡ tick_fault (monitored core.old) core.old.ticks (length memory.old) (nat_lt (O.free outbox.old) (burst (monitored core.old))) (answer S.layer (S.frames source.now) core.old.ticks) }
+    ensures outcome { MatchResult result (λ _. Ran V.Scale.scale (answer S.layer (S.frames source.now) core.old.ticks) O.waiting O.free core.old core.new memory.old memory.new outbox.old outbox.new) (λ _. (core.new ≡ core.old) × (memory.new ≡ memory.old) × (outbox.new ≡ outbox.old)) }
 {
     let cramped = outbox.room() < core.plan().burst() as usize;
     let olds = settled_by(core);

@@ -46,7 +46,7 @@ impl Scaled {
 
     /// The term's part in the sum: its word is asked below, unless its sign is 0.
     pub fn work_out<S: Source<Value = Margin>>(self, below: &S, tick: usize) -> Result<i32, Fault>
-        ensures value { result ≡ part (answer layer (frames below.now) tick) self }
+        ensures value { result ≡ part (answer S.layer (S.frames below.now) tick) self }
         ensures narrow { IfOk result Narrow }
     {
         match self.sign {

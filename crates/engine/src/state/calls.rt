@@ -64,7 +64,7 @@ impl Core {
 
     /// Why a tick over so much memory is refused, if it is; `cramped` says that there is too little room for its records.
     fn refuse<S: Source>(&self, source: &S, space: usize, cramped: bool) -> Result<(), TickFault>
-        ensures { result_err result ≡ tick_fault (monitored self.now) self.now.ticks space cramped (answer layer (frames source.now) self.now.ticks) }
+        ensures { result_err result ≡ tick_fault (monitored self.now) self.now.ticks space cramped (answer S.layer (S.frames source.now) self.now.ticks) }
     {
         if space < self.plan.need() as usize {
             return Err(TickFault::Memory);
@@ -85,7 +85,7 @@ impl Core {
     fn take_on<V: Scale, S: Source<Value = V>>(&mut self, source: &S, memory: &mut [V])
         requires room { need (monitored self.old) ≤ length memory.old }
         requires few { self.old.ticks < 16777216 }
-        ensures { Advanced V.Scale.scale (answer layer (frames source.now) self.old.ticks) self.old self.new memory.old memory.new }
+        ensures { Advanced V.Scale.scale (answer S.layer (S.frames source.now) self.old.ticks) self.old self.new memory.old memory.new }
     {
         let n = self.ticks;
         tick_all(self.plan.nodes(), source, n, memory, &mut self.keeps);
@@ -100,8 +100,8 @@ impl Core {
         memory: &mut [V],
         cramped: bool,
     ) -> Result<(), TickFault>
-        ensures fault { result_err result ≡ tick_fault (monitored self.old) self.old.ticks (length memory.old) cramped (answer layer (frames source.now) self.old.ticks) }
-        ensures outcome { MatchResult result (λ _. Advanced V.Scale.scale (answer layer (frames source.now) self.old.ticks) self.old self.new memory.old memory.new) (λ _. (self.new ≡ self.old) × (memory.new ≡ memory.old)) }
+        ensures fault { result_err result ≡ tick_fault (monitored self.old) self.old.ticks (length memory.old) cramped (answer S.layer (S.frames source.now) self.old.ticks) }
+        ensures outcome { MatchResult result (λ _. Advanced V.Scale.scale (answer S.layer (S.frames source.now) self.old.ticks) self.old self.new memory.old memory.new) (λ _. (self.new ≡ self.old) × (memory.new ≡ memory.old)) }
     {
         self.refuse(source, memory.len(), cramped)?;
         self.take_on(source, memory);

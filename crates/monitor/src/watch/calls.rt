@@ -24,7 +24,7 @@ impl<'m, V: Scale> Monitor<'m, V> {
     /// A monitor of this plan, over this memory, with no tick accepted. The memory stays as it is, may hold anything, and may
     /// be too short: then every tick is refused.
     pub fn set_up(plan: Plan, memory: &'m mut [V]) -> Monitor<'m, V>
-        ensures set_up { SetUp scale plan memory.old result }
+        ensures set_up { SetUp V.Scale.scale plan memory.old result }
         ensures lends { result.memory.ghost_name ≡ memory.entry.ghost_name }
     {
         Monitor {
@@ -41,8 +41,8 @@ impl<'m, V: Scale> Monitor<'m, V> {
         source: &S,
         outbox: &mut O,
     ) -> Result<(), TickFault>
-        ensures fault { result_err result ≡ tick_fault (table_in self.old) (ticks_in self.old) (length (memory_in self.old)) (nat_lt (free outbox.old) (burst (table_in self.old))) (answer layer (frames source.now) (ticks_in self.old)) }
-        ensures outcome { MatchResult result (λ _. Ticked V.Scale.scale (answer layer (frames source.now) (ticks_in self.old)) waiting free self.old self.new outbox.old outbox.new) (λ _. (self.new ≡ self.old) × (outbox.new ≡ outbox.old)) }
+        ensures fault { result_err result ≡ tick_fault (table_in self.old) (ticks_in self.old) (length (memory_in self.old)) (nat_lt (O.free outbox.old) (burst (table_in self.old))) (answer S.layer (S.frames source.now) (ticks_in self.old)) }
+        ensures outcome { MatchResult result (λ _. Ticked V.Scale.scale (answer S.layer (S.frames source.now) (ticks_in self.old)) O.waiting O.free self.old self.new outbox.old outbox.new) (λ _. (self.new ≡ self.old) × (outbox.new ≡ outbox.old)) }
         ensures lends { self.new.memory.ghost_name ≡ self.old.memory.ghost_name }
     {
         let Monitor { core, memory } = self;
@@ -53,7 +53,7 @@ impl<'m, V: Scale> Monitor<'m, V> {
     /// refused if there is no such rule, or else if no tick is accepted yet; it changes nothing.
     pub fn read(&self, rule: u8) -> Result<(V, V), ReadFault>
         ensures fault { result_err result ≡ read_fault (table_in self.now) (ticks_in self.now) rule }
-        ensures ends { IfOk result (λ e. ReadEnds scale self.now.core (memory_in self.now) rule e) }
+        ensures ends { IfOk result (λ e. ReadEnds V.Scale.scale self.now.core (memory_in self.now) rule e) }
     {
         read_ends(&self.core, self.memory, rule)
     }
@@ -62,7 +62,7 @@ impl<'m, V: Scale> Monitor<'m, V> {
     /// it was.
     pub fn close(self) -> Totals
         ensures totals { as_totals result ≡ totals_of self.entry.core }
-        ensures owed { (σ : ℕ → ℕ → V) (m : ℕ) → Represents scale σ m self.entry.core self.entry.memory.now → as_totals result ≡ totals scale σ m (monitored self.entry.core) }
+        ensures owed { (σ : ℕ → ℕ → V) (m : ℕ) → Represents V.Scale.scale σ m self.entry.core self.entry.memory.now → as_totals result ≡ totals V.Scale.scale σ m (monitored self.entry.core) }
         ensures memory { self.exit.1.0.now ≡ self.entry.memory.now }
     {
         let Monitor { core, memory: _ } = self;

@@ -11,7 +11,7 @@ returns-in-Err g c =
 pub loop-sample-preserved : goal.loop-sample-preserved
 loop-sample-preserved g c =
     let ask = answer g.S.Source.layer (g.S.Source.frames c.args.source.now) c.args.tick in
-    at_value ask c.args.samples.now c.loop-sample.sample-index c.loop-sample.invariant 0 c.loop-sample-test.true c.ask.ensures c.in-default.is
+    at_value ask c.args.samples.now c.loop-sample.sample-index c.loop-sample.invariant 0 c.loop-sample-test.true c.ask.ensures c.in_default.is
 
 pub returns : goal.returns
 returns g c =

@@ -6,7 +6,7 @@ ghost use Rattle.table.specs.Lags.{lags as lags_of};
 ghost use Rattle.table.specs.Places.{places as places_of, need as need_of, burst as burst_of};
 ghost use Rattle.table_check.specs.Plans.{table_of};
 ghost use Rattle.table.specs.Refusals.{checked};
-ghost use Rattle.table.specs.Tables.{blank, size as type_size, meant};
+ghost use Rattle.table.specs.Tables.{blank, size as size_of, meant};
 
 use super::super::judge::{BLANK, Judged, judge_nodes};
 use super::super::lags::AT_ONCE;
@@ -66,7 +66,7 @@ impl Plan {
 
     /// How many of its newest positions each node keeps.
     pub fn places(&self) -> &[u32]
-        ensures len { length result.now ≡ type_size (table_of self.now) }
+        ensures len { length result.now ≡ size_of (table_of self.now) }
         ensures places { (k : ℕ) → k < length result.now → slice_index result.now k ≡ places_of (table_of self.now) k }
     {
         &self.places[0..self.size]

@@ -7,12 +7,12 @@ pub returns : goal.returns
 returns g c =
     let scale = g.V.Scale.scale in
     let decoded = g.V.Readable.decoded in
-    let read = value_read scale g.V.Scale.coded decoded g.met.V.Scale.codes g.met.V.Readable.decodes c.from-be-bytes-code.result (omega arith) c.decode.result c.decode.ensures in
-    let value = c.unwrap-or-value.ensures ∙ ap (unwrap_or c.decode.result) c.lowest.ensures ∙ read ∙ ap (value_of scale decoded) c.from-be-bytes-code.ensures in
+    let read = value_read scale g.V.Scale.coded decoded g.met.V.Scale.codes g.met.V.Readable.decodes c.from_be_bytes-code.result (omega arith) c.decode.result c.decode.ensures in
+    let value = c.unwrap_or-value.ensures ∙ ap (unwrap_or c.decode.result) c.lowest.ensures ∙ read ∙ ap (value_of scale decoded) c.from_be_bytes-code.ensures in
     λ i. record {
       rule = get_or c.args.page.now 0 0;
-      first = c.from-be-bytes.ensures i;
-      last = c.from-be-bytes-2.ensures i;
+      first = c.from_be_bytes.ensures i;
+      last = c.from_be_bytes-2.ensures i;
       value = value i;
-      lag = c.from-be-bytes-3.ensures i;
+      lag = c.from_be_bytes-3.ensures i;
     }

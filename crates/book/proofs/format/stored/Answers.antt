@@ -6,8 +6,8 @@ use Rattle.book.proofs.format.stored.Goals as goal
 pub returns : goal.returns
 returns g c =
     let r = c.args.record.now in
-    stored_bytes g.V.Scale.coded r c.to-be-bytes.result c.to-be-bytes-2.result c.to-be-bytes-3.result c.to-be-bytes-4.result
-    (half_bytes c.code.result _ (omega arith) c.to-be-bytes.ensures ∙ ap half c.code.ensures)
-    (word_bytes r.first _ (omega arith) c.to-be-bytes-2.ensures)
-    (word_bytes r.last _ (omega arith) c.to-be-bytes-3.ensures)
-    (word_bytes r.lag _ (omega arith) c.to-be-bytes-4.ensures)
+    stored_bytes g.V.Scale.coded r c.to_be_bytes.result c.to_be_bytes-2.result c.to_be_bytes-3.result c.to_be_bytes-4.result
+    (half_bytes c.code.result _ (omega arith) c.to_be_bytes.ensures ∙ ap half c.code.ensures)
+    (word_bytes r.first _ (omega arith) c.to_be_bytes-2.ensures)
+    (word_bytes r.last _ (omega arith) c.to_be_bytes-3.ensures)
+    (word_bytes r.lag _ (omega arith) c.to_be_bytes-4.ensures)

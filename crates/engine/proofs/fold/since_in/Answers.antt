@@ -8,7 +8,7 @@ use Rattle.engine.proofs.Folding.{since_begun, since_on}
 use Rattle.engine.proofs.fold.since_in.Goals as goal
 
 pub loop-j-init : goal.loop-j-init
-loop-j-init g c = since_begun (bounds _ g.met.V.Scale.order) (reading c.args.other c.args.memory.now c.args.left) (reading c.args.other c.args.memory.now c.args.right) c.args.i c.args.from _ _ c.lowest-most.ensures c.least-in-run.ensures
+loop-j-init g c = since_begun (bounds _ g.met.V.Scale.order) (reading c.args.other c.args.memory.now c.args.left) (reading c.args.other c.args.memory.now c.args.right) c.args.i c.args.from _ _ c.lowest-most.ensures c.least_in-run.ensures
 
 pub loop-j-preserved : goal.loop-j-preserved
 loop-j-preserved g c =

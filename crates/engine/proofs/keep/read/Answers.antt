@@ -12,10 +12,10 @@ returns g c =
     let settled : a.position < q.count = omega (arith, c.if-position-keep.false) in
     record {
       read = λ stands.
-          c.unwrap-or.ensures
-          ∙ ap (λ o. unwrap_or o a.other) (c.read-at.ensures.read stands)
+          c.unwrap_or.ensures
+          ∙ ap (λ o. unwrap_or o a.other) (c.read_at.ensures.read stands)
           ∙ nth_or held _ a.other
-          ∙ ap (λ i. get_or held i a.other) (omega (arith, c.saturating-sub.ensures, c.saturating-sub-older.ensures))
+          ∙ ap (λ i. get_or held i a.other) (omega (arith, c.saturating_sub.ensures, c.saturating_sub-older.ensures))
           ∙ sym (seen_in a.other q.count (value_in a.other a.memory.now q) a.position settled);
-      misfit = λ not. c.unwrap-or.ensures ∙ ap (λ o. unwrap_or o a.other) (c.read-at.ensures.misfit not);
+      misfit = λ not. c.unwrap_or.ensures ∙ ap (λ o. unwrap_or o a.other) (c.read_at.ensures.misfit not);
     }

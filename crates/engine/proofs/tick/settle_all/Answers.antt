@@ -34,14 +34,14 @@ settle-requires g c =
     let beside : (u v w z : Keep) → u ≡ v → w ≡ z → Apart v.from v.to z.from z.to → Apart u.from u.to w.from w.to =
     λ u v w z e f ap. subst (λ (i : Keep). Apart i.from i.to w.from w.to) (sym e) (subst (λ (i : Keep). Apart v.from v.to i.from i.to) (sym f) ap) in
     record {
-      own = at _ _ c.keep-of-own.ensures (c.loop-k.invariant.stands c.loop-k.k h);
-      left = at _ _ c.operand-of-left.ensures (operand_stands s (bounds s g.met.V.Scale.order) (answer g.S.Source.layer (g.S.Source.frames a.source.now) a.n) a.nodes.now a.n a.memory.now a.keeps.now c.requires.sound c.loop-k.k c.loop-k.memory c.loop-k.keeps c.loop-k.invariant h x.left (λ e. (below e).0));
-      right = at _ _ c.operand-of-right.ensures (operand_stands s (bounds s g.met.V.Scale.order) (answer g.S.Source.layer (g.S.Source.frames a.source.now) a.n) a.nodes.now a.n a.memory.now a.keeps.now c.requires.sound c.loop-k.k c.loop-k.memory c.loop-k.keeps c.loop-k.invariant h x.right (λ e. (below e).1));
+      own = at _ _ c.keep_of-own.ensures (c.loop-k.invariant.stands c.loop-k.k h);
+      left = at _ _ c.operand_of-left.ensures (operand_stands s (bounds s g.met.V.Scale.order) (answer g.S.Source.layer (g.S.Source.frames a.source.now) a.n) a.nodes.now a.n a.memory.now a.keeps.now c.requires.sound c.loop-k.k c.loop-k.memory c.loop-k.keeps c.loop-k.invariant h x.left (λ e. (below e).0));
+      right = at _ _ c.operand_of-right.ensures (operand_stands s (bounds s g.met.V.Scale.order) (answer g.S.Source.layer (g.S.Source.frames a.source.now) a.n) a.nodes.now a.n a.memory.now a.keeps.now c.requires.sound c.loop-k.k c.loop-k.memory c.loop-k.keeps c.loop-k.invariant h x.right (λ e. (below e).1));
       apart = λ e. let inner = late_inner x.kind e in (
-        beside _ _ _ _ c.keep-of-own.ensures c.operand-of-left.ensures (operand_apart s (bounds s g.met.V.Scale.order) (answer g.S.Source.layer (g.S.Source.frames a.source.now) a.n) a.nodes.now a.n a.memory.now a.keeps.now c.requires.sound c.loop-k.k c.loop-k.memory c.loop-k.keeps c.loop-k.invariant h x.left inner (below inner).0),
-        beside _ _ _ _ c.keep-of-own.ensures c.operand-of-right.ensures (operand_apart s (bounds s g.met.V.Scale.order) (answer g.S.Source.layer (g.S.Source.frames a.source.now) a.n) a.nodes.now a.n a.memory.now a.keeps.now c.requires.sound c.loop-k.k c.loop-k.memory c.loop-k.keeps c.loop-k.invariant h x.right inner (below inner).1),
+        beside _ _ _ _ c.keep_of-own.ensures c.operand_of-left.ensures (operand_apart s (bounds s g.met.V.Scale.order) (answer g.S.Source.layer (g.S.Source.frames a.source.now) a.n) a.nodes.now a.n a.memory.now a.keeps.now c.requires.sound c.loop-k.k c.loop-k.memory c.loop-k.keeps c.loop-k.invariant h x.left inner (below inner).0),
+        beside _ _ _ _ c.keep_of-own.ensures c.operand_of-right.ensures (operand_apart s (bounds s g.met.V.Scale.order) (answer g.S.Source.layer (g.S.Source.frames a.source.now) a.n) a.nodes.now a.n a.memory.now a.keeps.now c.requires.sound c.loop-k.k c.loop-k.memory c.loop-k.keeps c.loop-k.invariant h x.right inner (below inner).1),
       );
-      small = (c.requires.small, subst (λ (u : Keep). u.count ≤ a.n) (sym c.keep-of-own.ensures) (own_counted s (bounds s g.met.V.Scale.order) (answer g.S.Source.layer (g.S.Source.frames a.source.now) a.n) a.nodes.now a.n a.memory.now a.keeps.now c.requires.sound c.loop-k.k c.loop-k.memory c.loop-k.keeps c.loop-k.invariant h));
+      small = (c.requires.small, subst (λ (u : Keep). u.count ≤ a.n) (sym c.keep_of-own.ensures) (own_counted s (bounds s g.met.V.Scale.order) (answer g.S.Source.layer (g.S.Source.frames a.source.now) a.n) a.nodes.now a.n a.memory.now a.keeps.now c.requires.sound c.loop-k.k c.loop-k.memory c.loop-k.keeps c.loop-k.invariant h));
       window = c.requires.sound.windows c.loop-k.k h;
     }
 
@@ -57,10 +57,10 @@ loop-k-preserved g c =
     let left = operand_of qs x c.loop-k.k x.left in
     let right = operand_of qs x c.loop-k.k x.right in
     let step : S (sample_of s answers x) own left right =
-    subst (λ v. S v own left right) c.sample-of-sample.ensures
-    (subst (λ q. S c.sample-of-sample.result q left right) c.keep-of-own.ensures
-    (subst (λ l. S c.sample-of-sample.result c.keep-of-own.result l right) c.operand-of-left.ensures
-    (subst (λ r. S c.sample-of-sample.result c.keep-of-own.result c.operand-of-left.result r) c.operand-of-right.ensures c.settle.ensures))) in
+    subst (λ v. S v own left right) c.sample_of-sample.ensures
+    (subst (λ q. S c.sample_of-sample.result q left right) c.keep_of-own.ensures
+    (subst (λ l. S c.sample_of-sample.result c.keep_of-own.result l right) c.operand_of-left.ensures
+    (subst (λ r. S c.sample_of-sample.result c.keep_of-own.result c.operand_of-left.result r) c.operand_of-right.ensures c.settle.ensures))) in
     going_on s (bounds s g.met.V.Scale.order) (answer g.S.Source.layer (g.S.Source.frames a.source.now) a.n) a.nodes.now a.n a.memory.now a.keeps.now c.requires.sound c.loop-k.k c.loop-k.memory c.loop-k.keeps c.loop-k.invariant c.loop-k-test.true c.settle.new.memory c.settle.result step c.loop-k.auto.keeps c.loop-k.auto.memory
 
 pub returns : goal.returns

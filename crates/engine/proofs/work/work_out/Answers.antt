@@ -31,24 +31,24 @@ returns-in-Or g c = let a = c.args in of_kind g.V.Scale.scale a.sample a.memory.
 
 pub returns-in-Within : goal.returns-in-Within
 unfolding value
-returns-in-Within g c = let a = c.args in of_kind g.V.Scale.scale a.sample a.memory.now a.node a.left a.right a.other a.i Within _ c.in-Within.is c.greatest-in.ensures
+returns-in-Within g c = let a = c.args in of_kind g.V.Scale.scale a.sample a.memory.now a.node a.left a.right a.other a.i Within _ c.in-Within.is c.greatest_in.ensures
 
 pub returns-in-Always : goal.returns-in-Always
 unfolding value
-returns-in-Always g c = let a = c.args in of_kind g.V.Scale.scale a.sample a.memory.now a.node a.left a.right a.other a.i Always _ c.in-Always.is c.least-in.ensures
+returns-in-Always g c = let a = c.args in of_kind g.V.Scale.scale a.sample a.memory.now a.node a.left a.right a.other a.i Always _ c.in-Always.is c.least_in.ensures
 
 pub returns-in-Until : goal.returns-in-Until
 unfolding value
-returns-in-Until g c = let a = c.args in of_kind g.V.Scale.scale a.sample a.memory.now a.node a.left a.right a.other a.i Until _ c.in-Until.is c.until-in.ensures
+returns-in-Until g c = let a = c.args in of_kind g.V.Scale.scale a.sample a.memory.now a.node a.left a.right a.other a.i Until _ c.in-Until.is c.until_in.ensures
 
 pub returns-in-Once : goal.returns-in-Once
 unfolding value
-returns-in-Once g c = let a = c.args in of_kind g.V.Scale.scale a.sample a.memory.now a.node a.left a.right a.other a.i Once _ c.in-Once.is (c.greatest-in-in-Once.ensures ∙ ap₂ (λ p q. greatest g.V.Scale.scale p q (reading a.other a.memory.now a.left)) c.saturating-sub.ensures c.saturating-sub-in-Once.ensures)
+returns-in-Once g c = let a = c.args in of_kind g.V.Scale.scale a.sample a.memory.now a.node a.left a.right a.other a.i Once _ c.in-Once.is (c.greatest_in-in-Once.ensures ∙ ap₂ (λ p q. greatest g.V.Scale.scale p q (reading a.other a.memory.now a.left)) c.saturating_sub.ensures c.saturating_sub-in-Once.ensures)
 
 pub returns-in-Held : goal.returns-in-Held
 unfolding value
-returns-in-Held g c = let a = c.args in of_kind g.V.Scale.scale a.sample a.memory.now a.node a.left a.right a.other a.i Held _ c.in-Held.is (c.least-in-in-Held.ensures ∙ ap₂ (λ p q. least g.V.Scale.scale p q (reading a.other a.memory.now a.left)) c.saturating-sub-in-Held.ensures c.saturating-sub-in-Held-2.ensures)
+returns-in-Held g c = let a = c.args in of_kind g.V.Scale.scale a.sample a.memory.now a.node a.left a.right a.other a.i Held _ c.in-Held.is (c.least_in-in-Held.ensures ∙ ap₂ (λ p q. least g.V.Scale.scale p q (reading a.other a.memory.now a.left)) c.saturating_sub-in-Held.ensures c.saturating_sub-in-Held-2.ensures)
 
 pub returns-in-Since : goal.returns-in-Since
 unfolding value
-returns-in-Since g c = let a = c.args in of_kind g.V.Scale.scale a.sample a.memory.now a.node a.left a.right a.other a.i Since _ c.in-Since.is c.since-in.ensures
+returns-in-Since g c = let a = c.args in of_kind g.V.Scale.scale a.sample a.memory.now a.node a.left a.right a.other a.i Since _ c.in-Since.is c.since_in.ensures

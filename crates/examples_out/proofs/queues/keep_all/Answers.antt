@@ -24,7 +24,7 @@ loop-x-preserved g c =
     let xs = held c.args.memory.now c.args.from c.args.to c.args.at in
     let told = c.in-Ok.ensures in
     let one_more : take (i + 1) vs ≡ take i vs ++ x ∷ [] = take_more vs i x c.loop-x-test.true ∙ ap (λ y. take i vs ++ y ∷ []) (sym c.x-item.is) in (
-      subst (λ size. Stands size c.args.from c.args.to c.in-Ok.next) (sym c.keep-at.auto.memory) told.stand.1,
+      subst (λ size. Stands size c.args.from c.args.to c.in-Ok.next) (sym c.keep_at.auto.memory) told.stand.1,
       ap (λ d. d.held) told.memory
           ∙ ap (λ ys. newest n (ys ++ x ∷ [])) c.loop-x.invariant.1
           ∙ newest_append n (xs ++ take i vs) (x ∷ [])

@@ -3,4 +3,4 @@ use Rattle.queue.proofs.Regions.{nth_or}
 use Rattle.examples_out.proofs.queues.read_or.Goals as goal
 
 pub returns : goal.returns
-returns g c = c.unwrap-or.ensures ∙ ap (λ o. unwrap_or o c.args.default) (c.read-at.ensures.read c.requires) ∙ nth_or _ c.args.i c.args.default
+returns g c = c.unwrap_or.ensures ∙ ap (λ o. unwrap_or o c.args.default) (c.read_at.ensures.read c.requires) ∙ nth_or _ c.args.i c.args.default

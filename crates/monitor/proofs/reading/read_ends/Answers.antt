@@ -15,5 +15,5 @@ overflow_add-slot g c =
     let rules : c.rules-rules.result.now ≡ (monitored core).rules = c.rules-rules.ensures ∙ ap (λ p. (table_of p).rules) c.plan.ensures in
     let there : rule < length (monitored core).rules = omega (arith, ap length rules, c.if-r-rules.false) in
     let node = rule_node (monitored core) rule in
-    let is : c.keep-of-slot.result ≡ keep_of core.keeps node = c.keep-of-slot.ensures ∙ ap₂ keep_of c.keeps.ensures (ap (λ l. get_or l rule 0) rules) in
+    let is : c.keep_of-slot.result ≡ keep_of core.keeps node = c.keep_of-slot.ensures ∙ ap₂ keep_of c.keeps.ensures (ap (λ l. get_or l rule 0) rules) in
     omega (arith, ap (λ (q : Keep). q.to) is, core.inside node (accepted.rules_fit rule there), accepted.fits)

@@ -12,7 +12,7 @@ pub loop-r-preserved : goal.loop-r-preserved
 loop-r-preserved g c =
     let a = c.args in
     let l = c.loop-r in
-    below_more g.O.Outbox.waiting g.O.Outbox.free g.V.Scale.scale a.memory.now a.keeps.now a.rules a.olds a.n a.outbox.now l.outbox c.tell-rule.new.outbox l.r c.keep-of-keep.result c.keep-of-keep.ensures l.invariant c.tell-rule.ensures
+    below_more g.O.Outbox.waiting g.O.Outbox.free g.V.Scale.scale a.memory.now a.keeps.now a.rules a.olds a.n a.outbox.now l.outbox c.tell_rule.new.outbox l.r c.keep_of-keep.result c.keep_of-keep.ensures l.invariant c.tell_rule.ensures
 
 pub returns : goal.returns
 returns g c =

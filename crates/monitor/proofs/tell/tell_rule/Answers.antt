@@ -29,12 +29,12 @@ loop-p-preserved g c =
     let s = g.V.Scale.scale in
     hand_new g.O.Outbox.waiting g.O.Outbox.free s a.memory.now a.keep a.rule a.n a.old a.outbox.now (bounds s g.met.V.Scale.order) l.outbox l.first l.p l.value c.read-next.result l.invariant
     record { other = c.lowest-in-loop-p.result; is = c.read-next.ensures.read c.requires.stands; low = c.lowest-in-loop-p.ensures; inside = c.loop-p-test.true }
-    c.tell-run.new.outbox
-    c.tell-run.ensures
+    c.tell_run.new.outbox
+    c.tell_run.ensures
     c.if-agree.ensures
 
 pub returns : goal.returns
 returns g c =
     let a = c.args in
     let l = c.loop-p in
-    hand_end g.O.Outbox.waiting g.O.Outbox.free g.V.Scale.scale a.memory.now a.keep a.rule a.n a.old a.outbox.now l.outbox c.tell-run-2.new.outbox l.first l.p l.value l.invariant c.loop-p-test.false c.tell-run-2.ensures
+    hand_end g.O.Outbox.waiting g.O.Outbox.free g.V.Scale.scale a.memory.now a.keep a.rule a.n a.old a.outbox.now l.outbox c.tell_run-2.new.outbox l.first l.p l.value l.invariant c.loop-p-test.false c.tell_run-2.ensures

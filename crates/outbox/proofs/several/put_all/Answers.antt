@@ -7,13 +7,13 @@ use Rattle.outbox.proofs.several.put_all.Goals as goal
 pub loop-record-init : goal.loop-record-init
 loop-record-init g c = (sym (append-nil _), omega arith)
 
-pub returns-in-err-put : goal.returns-in-err-put
-returns-in-err-put g c =
-    let refused = c.in-err-put.ensures in
+pub returns-in_err-put : goal.returns-in_err-put
+returns-in_err-put g c =
+    let refused = c.in_err-put.ensures in
     let so_far = c.loop-record.invariant in
     let waiting = g.O.Outbox.waiting in
     let free = g.O.Outbox.free in
-    let p = err_from_is_err_and c.from-residual.result c.from-residual.ensures.1 in
+    let p = err_from_is_err_and c.from_residual.result c.from_residual.ensures.1 in
     let all : c.loop-record.record-index ≡ free c.args.outbox.now = omega (arith, so_far.1, refused.full) in
     rw (p.1, p.2) record {
       waiting = ap waiting {x = c.put.new.self} refused.same ∙ so_far.0 ∙ ap (λ n. waiting c.args.outbox.now ++ take n c.args.records.now) all;
@@ -23,7 +23,7 @@ returns-in-err-put g c =
 
 pub loop-record-preserved : goal.loop-record-preserved
 loop-record-preserved g c =
-    let put = c.in-ok-put.ensures in
+    let put = c.in_ok-put.ensures in
     let so_far = c.loop-record.invariant in
     let waiting = g.O.Outbox.waiting in
     let before = waiting c.args.outbox.now in (

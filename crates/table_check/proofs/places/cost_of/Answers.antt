@@ -14,17 +14,17 @@ part_small xs n most h k =
     (λ ge. omega (arith, get_or_past (take n xs) k 0 (omega (arith, length-take n xs))))
     (cases_lt k n)
 
-pub memory-for-need-requires : goal.memory-for-need-requires
-memory-for-need-requires c = record {
-  few = omega (arith, length-take (length c.args.nodes.now - 0) c.all-places-places.result, c.requires.few);
-  small = part_small c.all-places-places.result _ 131072 c.all-places-places.ensures.few;
+pub memory_for-need-requires : goal.memory_for-need-requires
+memory_for-need-requires c = record {
+  few = omega (arith, length-take (length c.args.nodes.now - 0) c.all_places-places.result, c.requires.few);
+  small = part_small c.all_places-places.result _ 131072 c.all_places-places.ensures.few;
 }
 
 pub returns : goal.returns
 returns c =
-    let kept : (k : ℕ) → k < length c.args.nodes.now → get_or c.all-places-places.result k 0 ≡ places_of (of_lists c.args.nodes.now c.args.rules.now) k = λ k h. c.all-places-places.ensures.places k h ∙ kept_places c.args.nodes.now c.args.lags.now c.args.rules.now c.requires.lags k in
+    let kept : (k : ℕ) → k < length c.args.nodes.now → get_or c.all_places-places.result k 0 ≡ places_of (of_lists c.args.nodes.now c.args.rules.now) k = λ k h. c.all_places-places.ensures.places k h ∙ kept_places c.args.nodes.now c.args.lags.now c.args.rules.now c.requires.lags k in
     record {
       places = kept;
-      goal = c.memory-for-need.ensures ∙ whole_need c.args.nodes.now c.args.lags.now c.args.rules.now c.requires.lags c.all-places-places.result (omega (arith, c.requires.few, c.all-places-places.ensures.long)) kept;
-      burst = c.burst-of-burst.ensures ∙ whole_burst c.args.nodes.now c.args.lags.now c.args.rules.now c.requires.lags;
+      need = c.memory_for-need.ensures ∙ whole_need c.args.nodes.now c.args.lags.now c.args.rules.now c.requires.lags c.all_places-places.result (omega (arith, c.requires.few, c.all_places-places.ensures.long)) kept;
+      burst = c.burst_of-burst.ensures ∙ whole_burst c.args.nodes.now c.args.lags.now c.args.rules.now c.requires.lags;
     }

@@ -4,8 +4,8 @@ use Rattle.book.specs.Pages.{records}
 use Rattle.book.proofs.Booked.{entered, as_long, one_more}
 use Rattle.book.proofs.calls.BookOutbox.put.Goals as goal
 
-pub invariant-of-self : goal.invariant-of-self
-invariant-of-self g c =
+pub invariant_of-self : goal.invariant_of-self
+invariant_of-self g c =
     let b = c.args.self.now in
     let long = as_long g.V.Scale.coded b.bytes.now c.write.new.self.bytes.now c.stored.result b.count c.args.record.now c.stored.ensures c.write.ensures.bytes (omega arith) in
     (omega (arith, long), (omega (arith, c.write.ensures.taken), tt))

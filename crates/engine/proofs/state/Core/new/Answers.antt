@@ -3,12 +3,12 @@ use Rattle.table_check.specs.Plans.{table_of}
 use Rattle.engine.proofs.Laying.{laid_rising, laid_inside, laid_ordered, laid_roomy, laid_holds, laid_begins, laid_unsettled}
 use Rattle.engine.proofs.state.Core.new.Goals as goal
 
-pub invariant-of-result : goal.invariant-of-result
-invariant-of-result c =
+pub invariant_of-result : goal.invariant_of-result
+invariant_of-result c =
     let t = table_of c.args.plan in
     let ps = c.places.result.now in
-    let qs = c.lay-out-keeps.result in
+    let qs = c.lay_out-keeps.result in
     let many = c.places.ensures.len in
     let are = c.places.ensures.places in
-    let laid = c.lay-out-keeps.ensures in
+    let laid = c.lay_out-keeps.ensures in
     (omega arith, (laid_rising t ps qs many are laid, (laid_inside t ps qs many are laid, (laid_ordered t ps qs many are laid, (laid_roomy t ps qs many are laid, (laid_holds t ps qs many are laid, (laid_begins t ps qs many are laid, (λ k. laid_unsettled t ps qs many are laid k 0, tt))))))))

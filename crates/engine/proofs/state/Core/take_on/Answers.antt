@@ -9,23 +9,23 @@ use Rattle.engine.proofs.Cores.{queues_sound, still_rising, still_inside, still_
 use Rattle.engine.proofs.Wholetick.{beyond_kept}
 use Rattle.engine.proofs.state.Core.take_on.Goals as goal
 
-pub tick-all-requires : goal.tick-all-requires
-tick-all-requires g c =
+pub tick_all-requires : goal.tick_all-requires
+tick_all-requires g c =
     let core = c.args.self.now in
     record {
       small = c.requires.few;
       sound = subst (λ ns. Sound ns core.keeps (length c.args.memory.now) core.ticks) (sym c.nodes.ensures) (queues_sound core (length c.args.memory.now) c.requires.room (omega arith));
     }
 
-pub invariant-of-self : goal.invariant-of-self
-invariant-of-self g c =
+pub invariant_of-self : goal.invariant_of-self
+invariant_of-self g c =
     let core = c.args.self.now in
-    let qs = c.tick-all.new.keeps in
-    let same = c.tick-all.ensures.regions in
+    let qs = c.tick_all.new.keeps in
+    let same = c.tick_all.ensures.regions in
     let nodes = c.nodes.result.now in
-    let space = length c.tick-all.new.memory in
+    let space = length c.tick_all.new.memory in
     let n = suc core.ticks in
-    let sound = c.tick-all.ensures.sound in
+    let sound = c.tick_all.ensures.sound in
     let is = c.nodes.ensures in
     (omega (arith, c.requires.few), (still_rising core qs same, (still_inside core qs same, (still_ordered core qs same, (still_roomy core qs same, (still_holds core qs same nodes space n sound is, (still_begins core qs same nodes space n sound is, (still_counted core qs same nodes space n sound is (core.ticks + 1) (omega arith), tt))))))))
 
@@ -34,15 +34,15 @@ returns g c =
     let core = c.args.self.now in
     let t = monitored core in
     let memory = c.args.memory.now in
-    let now = c.tick-all.new.memory in
-    let qs = c.tick-all.new.keeps in
-    let after = c.tick-all.ensures in
+    let now = c.tick_all.new.memory in
+    let qs = c.tick_all.new.keeps in
+    let after = c.tick_all.ensures in
     let s = g.V.Scale.scale in
     let answers = answer g.S.Source.layer (g.S.Source.frames c.args.source.now) core.ticks in
     record {
       plan = refl;
       ticks = omega arith;
-      beyond = beyond_kept (length c.nodes.result.now) (need_of t) memory now core.keeps after.others c.tick-all.auto.memory (λ k h. core.inside k (omega (arith, ap length c.nodes.ensures, h)));
+      beyond = beyond_kept (length c.nodes.result.now) (need_of t) memory now core.keeps after.others c.tick_all.auto.memory (λ k h. core.inside k (omega (arith, ap length c.nodes.ensures, h)));
       next = λ σ m asked rep.
           let done : Ticked s σ m t now qs = subst (λ m. Asked answers σ m t → AllAt s σ m t memory core.keeps → Ticked s σ m t now qs) rep.ticks (after.next t σ (plan_accepted core.plan) (sym c.nodes.ensures)) asked rep.queues in
           record {

@@ -11,5 +11,5 @@ loop-r-preserved c =
     let is = c.settled-settled.ensures in (
       length-set _ _ _ ∙ so_far.0,
       counted_more (λ k. rule_total ticks (keep_of c.args.core.now.keeps k).count) c.loop-r.rules _ c.loop-r.r _ (omega (arith, so_far.0)) (omega arith)
-          (ap₂ (λ a b. record { settled = a; «open» = b }) is (c.saturating-sub.ensures ∙ ap (λ n. ticks - n) is)) so_far.1,
+          (ap₂ (λ a b. record { settled = a; «open» = b }) is (c.saturating_sub.ensures ∙ ap (λ n. ticks - n) is)) so_far.1,
     )

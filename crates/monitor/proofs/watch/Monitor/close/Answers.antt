@@ -6,7 +6,7 @@ pub returns : goal.returns
 returns g c =
     let core = c.args.self.core in
     record {
-      totals = c.total-up.ensures;
-      owed = λ σ m rep. c.total-up.ensures ∙ totals_owed g.V.Scale.scale σ m core c.args.self.memory.now rep;
+      totals = c.total_up.ensures;
+      owed = λ σ m rep. c.total_up.ensures ∙ totals_owed g.V.Scale.scale σ m core c.args.self.memory.now rep;
       memory = refl;
     }

@@ -49,19 +49,19 @@ module _ (written : List UncheckedNode) (rules : List ℕ) (nodes : length writt
       passed_so_far : PassedSoFar all
       passed_so_far = so_far written rules (omega arith, few) (omega arith, few_rules) (sym passed) (sym named)
 
-pub returns-in-err-judged : goal.returns-in-err-judged
-returns-in-err-judged c =
-    let p = err_from_is_err_and c.from-residual.result c.from-residual.ensures.1 in
+pub returns-in_err-judged : goal.returns-in_err-judged
+returns-in_err-judged c =
+    let p = err_from_is_err_and c.from_residual.result c.from_residual.ensures.1 in
     rw (p.1, p.2) record {
-      fault = node_stops c.args.written.now c.args.rules.now c.if-size-eq0.false c.if-size-gt64.false c.if-count-eq0.false c.if-count-gt16.false _ c.in-err-judged.ensures.fault;
+      fault = node_stops c.args.written.now c.args.rules.now c.if-size-eq0.false c.if-size-gt64.false c.if-count-eq0.false c.if-count-gt16.false _ c.in_err-judged.ensures.fault;
       plan = tt;
     }
 
-pub returns-in-err-named : goal.returns-in-err-named
-returns-in-err-named c =
-    let p = err_from_is_err_and c.from-residual-in-err-named.result c.from-residual-in-err-named.ensures.1 in
+pub returns-in_err-named : goal.returns-in_err-named
+returns-in_err-named c =
+    let p = err_from_is_err_and c.from_residual-in_err-named.result c.from_residual-in_err-named.ensures.1 in
     rw (p.1, p.2) record {
-      fault = rule_stops c.args.written.now c.args.rules.now c.if-size-eq0.false c.if-size-gt64.false c.if-count-eq0.false c.if-count-gt16.false c.in-ok-judged.ensures.fault _ c.in-err-named.ensures.fault;
+      fault = rule_stops c.args.written.now c.args.rules.now c.if-size-eq0.false c.if-size-gt64.false c.if-count-eq0.false c.if-count-gt16.false c.in_ok-judged.ensures.fault _ c.in_err-named.ensures.fault;
       plan = tt;
     }
 
@@ -71,8 +71,8 @@ same_table written rules nodes named p q = ap₂ of_lists p q
 
 pub finish-requires : goal.finish-requires
 finish-requires c =
-    let judged = c.in-ok-judged.ensures in
-    let named = c.in-ok-named.ensures in
+    let judged = c.in_ok-judged.ensures in
+    let named = c.in_ok-named.ensures in
     record {
       few = c.if-size-gt64.false;
       ruled = c.if-count-gt16.false;
@@ -83,8 +83,8 @@ finish-requires c =
 
 pub returns : goal.returns
 returns c =
-    let judged = c.in-ok-judged.ensures in
-    let named = c.in-ok-named.ensures in
+    let judged = c.in_ok-judged.ensures in
+    let named = c.in_ok-named.ensures in
     let same = same_table _ _ _ _ judged.nodes named.named in
     record {
       fault = c.finish.ensures.fault ∙ ap last_fault same ∙ rest_decides c.args.written.now c.args.rules.now c.if-size-eq0.false c.if-size-gt64.false c.if-count-eq0.false c.if-count-gt16.false judged.fault named.fault;
