@@ -1,9 +1,9 @@
 //! Examples of the check: the limits, the first refusal, and what a refusal leaves.
-use table_check::plan::{Plan, check};
 use std::alloc::{AllocError, Global};
 use std::test::Fail;
 use table::fault::TableFault;
 use table::node::{UncheckedNode, UncheckedTable};
+use table_check::plan::{Plan, check};
 
 const SAMPLE: UncheckedNode = UncheckedNode {
     kind: 0,

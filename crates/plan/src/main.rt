@@ -5,11 +5,11 @@
 
 mod words;
 
-use table_check::plan::{Plan, check};
 use std::alloc::{AllocError, Global};
 use std::io;
 use table::fault::TableFault;
 use table::node::{Lag, Node, UncheckedNode, UncheckedTable};
+use table_check::plan::{Plan, check};
 use words::{FaultInWords, LagInWords, NodeInWords};
 
 const fn sample(number: u16) -> UncheckedNode {

@@ -13,9 +13,9 @@ use super::super::keep::{Keep, keep_of};
 use super::super::lay::lay_out;
 use super::super::tick::tick_all;
 use super::Core;
-use table_check::plan::Plan;
 use scale::Scale;
 use source::Source;
+use table_check::plan::Plan;
 
 /// As many ticks as one monitor accepts.
 const MOST_TICKS: usize = 16_777_216;

@@ -13,12 +13,12 @@ use super::super::reading::{ReadFault, read_ends};
 use super::super::run::run_tick;
 use super::super::totals::{Totals, total_up};
 use super::Monitor;
-use table_check::plan::Plan;
 use engine::fault::TickFault;
 use engine::state::Core;
 use outbox::Outbox;
 use scale::Scale;
 use source::Source;
+use table_check::plan::Plan;
 
 impl<'m, V: Scale> Monitor<'m, V> {
     /// A monitor of this plan, over this memory, with no tick accepted. The memory stays as it is, may hold anything, and may

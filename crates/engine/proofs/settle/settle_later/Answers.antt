@@ -14,7 +14,7 @@ pub keep_next-keep-requires : goal.keep_next-keep-requires
 keep_next-keep-requires g c =
     let a = c.args in
     record {
-      0 = ran_stands g.V.Scale.scale a.sample a.memory.now a.node a.own a.left a.right c.requires.own c.requires.apart.0 c.requires.apart.1 c.loop-keep.memory c.loop-keep.keep c.loop-keep.invariant.0 c.loop-keep.auto.memory;
+      stands = ran_stands g.V.Scale.scale a.sample a.memory.now a.node a.own a.left a.right c.requires.own c.requires.apart.0 c.requires.apart.1 c.loop-keep.memory c.loop-keep.keep c.loop-keep.invariant.0 c.loop-keep.auto.memory;
       small = omega (arith, c.loop-keep-test.true, c.requires.small.0);
     }
 

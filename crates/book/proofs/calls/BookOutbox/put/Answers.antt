@@ -8,7 +8,7 @@ pub invariant_of-self : goal.invariant_of-self
 invariant_of-self g c =
     let b = c.args.self.now in
     let long = as_long g.V.Scale.coded b.bytes.now c.write.new.self.bytes.now c.stored.result b.count c.args.record.now c.stored.ensures c.write.ensures.bytes (omega arith) in
-    (omega (arith, long), (omega (arith, c.write.ensures.taken), tt))
+    record { room = omega (arith, long); order = omega (arith, c.write.ensures.taken) }
 
 pub returns : goal.returns
 returns g c =

@@ -11,4 +11,13 @@ invariant_of-result c =
     let many = c.places.ensures.len in
     let are = c.places.ensures.places in
     let laid = c.lay_out-keeps.ensures in
-    (omega arith, (laid_rising t ps qs many are laid, (laid_inside t ps qs many are laid, (laid_ordered t ps qs many are laid, (laid_roomy t ps qs many are laid, (laid_holds t ps qs many are laid, (laid_begins t ps qs many are laid, (λ k. laid_unsettled t ps qs many are laid k 0, tt))))))))
+    record {
+      few = omega arith;
+      rising = laid_rising t ps qs many are laid;
+      inside = laid_inside t ps qs many are laid;
+      ordered = laid_ordered t ps qs many are laid;
+      roomy = laid_roomy t ps qs many are laid;
+      holds = laid_holds t ps qs many are laid;
+      begins = laid_begins t ps qs many are laid;
+      counted = λ k. laid_unsettled t ps qs many are laid k 0;
+    }

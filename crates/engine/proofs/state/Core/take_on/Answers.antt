@@ -27,7 +27,16 @@ invariant_of-self g c =
     let n = suc core.ticks in
     let sound = c.tick_all.ensures.sound in
     let is = c.nodes.ensures in
-    (omega (arith, c.requires.few), (still_rising core qs same, (still_inside core qs same, (still_ordered core qs same, (still_roomy core qs same, (still_holds core qs same nodes space n sound is, (still_begins core qs same nodes space n sound is, (still_counted core qs same nodes space n sound is (core.ticks + 1) (omega arith), tt))))))))
+    record {
+      few = omega (arith, c.requires.few);
+      rising = still_rising core qs same;
+      inside = still_inside core qs same;
+      ordered = still_ordered core qs same;
+      roomy = still_roomy core qs same;
+      holds = still_holds core qs same nodes space n sound is;
+      begins = still_begins core qs same nodes space n sound is;
+      counted = still_counted core qs same nodes space n sound is (core.ticks + 1) (omega arith);
+    }
 
 pub returns : goal.returns
 returns g c =
