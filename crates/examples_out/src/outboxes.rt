@@ -87,9 +87,9 @@ fn a_book_keeps_what_was_taken(rt: HostRuntime) -> Result<(), Fail> {
         return Err(Fail::new("nothing waits"));
     };
     assert_eq!(rt; fault.number(), 61);
-    assert_eq!(rt; &bytes[0..16], &stored(&records[0]));
-    assert_eq!(rt; &bytes[16..32], &stored(&records[1]));
-    assert_eq!(rt; &bytes[32..40], &[0xeeu8; 8]);
+    assert_eq!(rt; &bytes[0..16], stored(&records[0]).as_slice());
+    assert_eq!(rt; &bytes[16..32], stored(&records[1]).as_slice());
+    assert_eq!(rt; &bytes[32..40], [0xeeu8; 8].as_slice());
     Ok(())
 }
 

@@ -8,13 +8,13 @@ ghost use Rattle.life.specs.Lives.{Life, ClosedLife};
 use super::caller::Caller;
 use calls::call::{Answer, Call};
 use calls::make;
-use table_check::plan::Plan;
 use monitor::totals::Totals;
 use monitor::watch::Monitor;
 use outbox::Outbox;
 use scale::Scale;
 use source::Source;
 use std::alloc::{AllocError, Global};
+use table_check::plan::Plan;
 
 /// Sets up one monitor, makes the calls that the caller names until it ends or the log's room is used, writes each call with
 /// its answer into the log, and hands the monitor back.
