@@ -1,5 +1,5 @@
 -- How a sum is held against a limit. Assumes nothing.
-use Rattle.std.specs.Prelude.{ℕ, Bool, true, false, not, ◌&&◌, ℤ, int_le, int_lt, nat_le}
+use Rattle.std.specs.Prelude.{ℕ, Bool, not, ◌&&◌, ℤ, int_le, int_lt, nat_le}
 use Rattle.comparators.specs.declared.comparison.Comparison.{Comparison}
 use Rattle.comparators.specs.declared.comparison.Comparison.TheVariants.{Equal, Unequal, Below, AtMost, Above, AtLeast}
 

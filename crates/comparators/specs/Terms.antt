@@ -1,5 +1,5 @@
 -- A term of a comparator: sign × 2^shift × word. Assumes nothing.
-use Rattle.std.specs.Prelude.{ℕ, ◌^◌, Bool, true, false, ◌&&◌, ℤ, pos, negsuc, ◌*ℤ◌, ◌≤ℤ◌, int_le, nat_le}
+use Rattle.std.specs.Prelude.{◌^◌, Bool, ◌&&◌, ℤ, pos, negsuc, ◌*ℤ◌, ◌≤ℤ◌, int_le, nat_le}
 use Rattle.comparators.specs.declared.adding.Term.{Term}
 use Rattle.comparators.specs.declared.scaled.Sign.{Sign}
 use Rattle.comparators.specs.declared.scaled.Sign.TheVariants.{Minus, Zero, Plus}

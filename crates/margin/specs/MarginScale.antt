@@ -1,5 +1,5 @@
 -- The scale of margins: whole numbers from -32,767 to 32,767, reversed by negation. Assumes nothing.
-use Rattle.std.specs.Prelude.{ℕ, Bool, cond, ℤ, pos, negsuc, neg_ℤ, int_le}
+use Rattle.std.specs.Prelude.{ℕ, Bool, cond, pos, negsuc, neg_ℤ, int_le}
 use Rattle.std.specs.Int.Signed.{le_z_yes}
 use Rattle.std.proofs.Common.{arith, of_z}
 use Rattle.std.specs.Int.{w16}

@@ -1,5 +1,5 @@
 -- Margins are a scale. Assumes nothing.
-use Rattle.std.specs.Prelude.{◌≡◌, ℕ, ◌<◌, Bool, true, false, ◌⊎◌, ℤ, pos, negsuc, neg_ℤ, ◌≤ℤ◌, int_le, refl}
+use Rattle.std.specs.Prelude.{◌≡◌, ◌<◌, true, false, ℤ, pos, negsuc, neg_ℤ, ◌≤ℤ◌, int_le, refl}
 use Rattle.std.proofs.Common.{ap, inl, inr, ⊎_elim, arith, of_z}
 use mathlib.Core.HLevel.{is_prop→PathP}
 use Rattle.std.proofs.Props.{props}

@@ -1,5 +1,5 @@
 -- A total order has greatest lower and least upper bounds. Assumes nothing.
-use Rattle.std.proofs.Common.{◌≡◌, Bool, true, false, cond, ◌⊎◌, sym, subst, ⊎_elim}
+use Rattle.std.proofs.Common.{◌≡◌, false, sym, subst, ⊎_elim}
 use Rattle.std.proofs.lemmas.Bool.{cond_both, both_ways}
 use Rattle.scale.specs.Order.{Scale, AtMost, TotalOrder, Lattice, Bounds}
 

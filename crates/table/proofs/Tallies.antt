@@ -1,5 +1,5 @@
 -- The greatest and the sum of some numbers, one more at the end. Assumes nothing.
-use Rattle.std.proofs.Common.{◌≡◌, ℕ, suc, ◌+◌, max, ap, add-one}
+use Rattle.std.proofs.Common.{◌≡◌, ℕ, ◌+◌, max, ap, add-one}
 use Rattle.table.specs.Places.{most, total}
 
 pub most_more : (n : ℕ) (f : ℕ → ℕ) → most (n + 1) f ≡ max (most n f) (f n)

@@ -1,5 +1,5 @@
 -- Tables of nodes and rules, and the one way to work something out for every node. Assumes nothing.
-use Rattle.std.specs.Prelude.{ℕ, ◌<◌, List, [], ◌∷◌, ◌++◌, map, length, vec_items, slice_index, slice_index_or}
+use Rattle.std.specs.Prelude.{ℕ, List, [], ◌∷◌, ◌++◌, map, length, vec_items, slice_index, slice_index_or}
 use Rattle.table.specs.declared.kind.Kind.TheVariants.{Sample}
 use Rattle.table.specs.declared.kind.Side.{Side}
 use Rattle.table.specs.declared.node.Node.{Node}

@@ -1,7 +1,7 @@
 -- The tests of all nodes in their order: what holds after each. Assumes nothing.
-use Rattle.std.proofs.Common.{◌≡◌, ℕ, zero, suc, ◌+◌, ◌<◌, ◌≤◌, Bool, true, false, cond, not, ◌&&◌, eqb, ltb, leb, ◌≢◌, ◌⊎◌, List, [], ◌∷◌, ◌++◌, map, length, get_or, take, set, replicate, Some, None, sym, refl, ap, ◌∙◌, subst, ap₂, inl, inr, ⊎_elim, arith}
+use Rattle.std.proofs.Common.{◌≡◌, ℕ, ◌+◌, ◌<◌, ◌≤◌, true, false, cond, ◌&&◌, eqb, ltb, leb, ◌≢◌, List, [], ◌∷◌, ◌++◌, length, get_or, take, set, replicate, Some, None, sym, refl, ap, ◌∙◌, subst, ap₂, ⊎_elim, arith}
 use Rattle.std.proofs.lemmas.List.{length-set, length-map, get_or-set_same, get_or-set_other, get_or-take, get_or_past, get_or-map, get_or-replicate, length-take, length-take-le, take_more, take_more_set, take-take, take_all, ext_get_or}
-use Rattle.std.proofs.lemmas.Bool.{cases_Bool, cases_lt, cases_eq, cases_order, cond-true, cond-false, and_left, and_parts, not-false, ltb-true, both_ways}
+use Rattle.std.proofs.lemmas.Bool.{cases_Bool, cases_lt, cases_eq, cases_order, cond-true, cond-false, and_left, and_parts, not-false, ltb-true}
 use Rattle.table.specs.declared.fault.TableFault.{TableFault}
 use Rattle.table.specs.declared.fault.TableFault.TheVariants.{LateOperand, TooLate}
 use Rattle.table.specs.declared.kind.Kind.{Kind}
@@ -12,7 +12,7 @@ use Rattle.table.specs.declared.node.UncheckedNode.{UncheckedNode}
 use Rattle.table.specs.Kinds.{binary, sampled, past}
 use Rattle.table.specs.Tables.{Table, blank, node, as_node}
 use Rattle.table.specs.Lags.{no_lag, lag_of, lags, greatest_operand, operands_worst, worst}
-use Rattle.table.specs.Refusals.{Test, first, placed, left_placed, right_placed, own_tests, lag_tests, node_tests, unknown_kind}
+use Rattle.table.specs.Refusals.{first, own_tests, lag_tests, node_tests, unknown_kind}
 use Rattle.table.specs.Checking.{unwritten}
 use Rattle.table_check.specs.Judging.{of_lists, nodes_meant, node_fault}
 use Rattle.table.proofs.Entries.{entry_is, length_each}

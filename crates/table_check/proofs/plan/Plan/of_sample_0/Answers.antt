@@ -1,5 +1,5 @@
-use Rattle.std.proofs.Common.{◌≡◌, ℕ, zero, suc, ◌<◌, [], ◌∷◌, refl, arith, lit≤}
-use Rattle.table.specs.Tables.{blank, after, each}
+use Rattle.std.proofs.Common.{ℕ, zero, suc, ◌<◌, refl, arith, lit≤}
+use Rattle.table.specs.Tables.{after, each}
 use Rattle.table.specs.Lags.{lag_of, lags}
 use Rattle.table.specs.Places.{places, need, burst}
 use Rattle.table.specs.Refusals.{first_fault}

@@ -1,6 +1,6 @@
 use Rattle.std.proofs.Common.{◌≡◌, None, sym, ap, ◌∙◌}
 use Rattle.table.specs.declared.node.Lag.{Lag}
-use Rattle.table_check.specs.Judging.{last_fault, memory_fault}
+use Rattle.table_check.specs.Judging.{last_fault}
 use Rattle.table_check.proofs.Planned.{Costs, table, cut, memory_decides, too_much, not_too_much, it_passes, lag_is, planned_places, planned_need, planned_burst}
 use Rattle.table_check.proofs.plan.calls.finish.Goals as goal
 
