@@ -1,5 +1,5 @@
 //! What a book does.
-ghost use Rattle.std.specs.Prelude.{◌≡◌, ℕ, ◌+◌, [], MatchResult};
+ghost use Rattle.std.specs.Prelude.{◌≡◌, ℕ, ◌+◌, [], IfOk, MatchResult};
 ghost use Rattle.book.specs.Books.{lent, ever_put, pages_free, waiting_in};
 ghost use Rattle.book.specs.Format.{stored};
 ghost use Rattle.outbox.specs.Meaning.{Puts, Takes};
@@ -56,7 +56,8 @@ impl<'a, V: Readable> Outbox<V> for Book<'a, V> {
     }
 
     fn take(&mut self) -> Result<Record<V>, TakeFault>
-        ensures outbox { Takes (waiting_in V.Scale.scale V.decoded) pages_free self.old self.new (λ _. 0) result }
+        ensures outbox { Takes (waiting_in V.Scale.scale V.decoded) pages_free self.old self.new result }
+        ensures freed { IfOk result (λ _. pages_free self.new ≡ pages_free self.old + 0) }
         ensures bytes { lent self.new ≡ lent self.old }
         ensures put { ever_put self.new ≡ ever_put self.old }
         ensures lends { self.new.bytes.ghost_name ≡ self.old.bytes.ghost_name }

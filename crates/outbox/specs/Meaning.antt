@@ -1,5 +1,5 @@
 -- What it means to put a record into an outbox and to take one, by what waits in it and how much is free. Assumes nothing.
-use Rattle.std.specs.Prelude.{◌≡◌, ℕ, ◌+◌, List, [], ◌∷◌, ◌++◌, Ok, Err, Result}
+use Rattle.std.specs.Prelude.{◌≡◌, ℕ, ◌+◌, ◌≤◌, List, [], ◌∷◌, ◌++◌, Ok, Err, Result}
 use Rattle.record.specs.declared.Record.{Record}
 use Rattle.outbox.specs.declared.fault.PutFault.{PutFault}
 use Rattle.outbox.specs.declared.fault.TakeFault.{TakeFault}
@@ -17,10 +17,10 @@ module _ {S V : Type 0} (waiting : S → List (Record V)) (free : S → ℕ) (be
     pub full : free before ≡ 0
     pub same : after ≡ before
 
-  -- the oldest record waits no more, and so much more is free
-  pub record Taken (regained : S → ℕ) (x : Record V) : Type 0 where
+  -- the oldest record waits no more, and no less is free
+  pub record Taken (x : Record V) : Type 0 where
     pub removed : waiting before ≡ x ∷ waiting after
-    pub freed : free after ≡ free before + regained before
+    pub unlowered : free before ≤ free after
 
   -- nothing waited, and nothing has changed
   pub record NotTaken (fault : TakeFault) : Type 0 where
@@ -33,6 +33,6 @@ module _ {S V : Type 0} (waiting : S → List (Record V)) (free : S → ℕ) (be
   Puts x (Ok u) = Put x
   Puts x (Err fault) = NotPut fault
 
-  abbrev pub Takes : (regained : S → ℕ) → Result (Record V) TakeFault → Type 0
-  Takes regained (Ok x) = Taken regained x
-  Takes regained (Err fault) = NotTaken fault
+  abbrev pub Takes : Result (Record V) TakeFault → Type 0
+  Takes (Ok x) = Taken x
+  Takes (Err fault) = NotTaken fault

@@ -9,7 +9,7 @@ pub mod fault;
 pub mod ring;
 mod several;
 
-ghost use Rattle.std.specs.Prelude.{◌≡◌, ℕ, List};
+ghost use Rattle.std.specs.Prelude.{◌≡◌, ℕ, ◌+◌, List, IfOk};
 ghost use Rattle.record.specs.declared.Record.{Record};
 ghost use Rattle.outbox.specs.Meaning.{Puts, Takes};
 
@@ -38,5 +38,6 @@ pub trait Outbox<V: Copy> {
 
     /// The oldest record, which waits no more. Where nothing waits this is refused.
     fn take(&mut self) -> Result<Record<V>, TakeFault>
-        ensures { Takes waiting free self.old self.new regained result };
+        ensures taken { Takes waiting free self.old self.new result }
+        ensures freed { IfOk result (λ _. free self.new ≡ free self.old + regained self.old) };
 }

@@ -1,5 +1,5 @@
 //! The outbox in a list of records that it is lent: a queue of records.
-ghost use Rattle.std.specs.Prelude.{◌≡◌, ℕ, MatchResult, slice_set};
+ghost use Rattle.std.specs.Prelude.{◌≡◌, ℕ, ◌+◌, IfOk, MatchResult, slice_set};
 ghost use Rattle.queue.specs.Items.{items, lent, next_slot};
 ghost use Rattle.outbox.specs.Meaning.{Puts, Takes};
 ghost use Rattle.outbox.specs.Rings.{slots_free};
@@ -32,7 +32,8 @@ impl<'a, V: Copy> Outbox<V> for Ring<'a, Record<V>> {
     }
 
     fn take(&mut self) -> Result<Record<V>, TakeFault>
-        ensures outbox { Takes items slots_free self.old self.new (λ _. 1) result }
+        ensures outbox { Takes items slots_free self.old self.new result }
+        ensures freed { IfOk result (λ _. slots_free self.new ≡ slots_free self.old + 1) }
         ensures slots { lent self.new ≡ lent self.old }
         ensures lends { self.new.slots.ghost_name ≡ self.old.slots.ghost_name }
     {

@@ -14,7 +14,7 @@ bounds-places-i g c = omega (arith, c.loop-i-test.true)
 
 pub loop-i-preserved : goal.loop-i-preserved
 loop-i-preserved g c =
-    let took = c.in-Ok.ensures in
+    let took = c.in-Ok.ensures.taken in
     let so_far = c.loop-i.invariant in
     let waiting = g.O.Outbox.waiting in
     let before = waiting c.args.outbox.now in
@@ -25,12 +25,12 @@ loop-i-preserved g c =
       omega (arith, some_left before now then i x so_far.1 took.removed),
       take_more_left before now then i x so_far.1 took.removed,
       take_more_places before now then i x so_far.1 took.removed c.loop-i.places c.args.places.now so_far.2 c.loop-i-test.true,
-      omega (arith, so_far.3, took.freed),
+      omega (arith, so_far.3, took.unlowered),
     )
 
 pub returns-in-Err : goal.returns-in-Err
 returns-in-Err g c =
-    let refused = c.in-Err.ensures in
+    let refused = c.in-Err.ensures.taken in
     let so_far = c.loop-i.invariant in
     let waiting = g.O.Outbox.waiting in
     let before = waiting c.args.outbox.now in

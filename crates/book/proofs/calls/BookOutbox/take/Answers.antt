@@ -6,6 +6,7 @@ pub returns-then-taken-self : goal.returns-then-taken-self
 returns-then-taken-self g c =
     record {
       outbox = record { number = refl; empty = records_none _ _ _ _ (omega arith); same = refl };
+      freed = tt;
       bytes = refl;
       put = refl;
       lends = refl;
@@ -16,8 +17,9 @@ returns g c =
     record {
       outbox = record {
         removed = records_first _ _ _ _ c.oldest-oldest.result (omega arith) c.oldest-oldest.ensures;
-        freed = omega arith;
+        unlowered = omega arith;
       };
+      freed = omega arith;
       bytes = refl;
       put = refl;
       lends = refl;
