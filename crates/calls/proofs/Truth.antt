@@ -1,6 +1,6 @@
 -- Every record that is expected tells only what the formulas give. Assumes nothing.
 use Rattle.std.proofs.Common.{◌≡◌, ℕ, suc, ◌+◌, ◌<◌, ◌≤◌, length, sym, ap, ◌∙◌, subst, arith}
-use Rattle.std.specs.List.{AllByRecursion as All}
+use Rattle.std.specs.List.{AllByRecursion}
 use Rattle.std.proofs.ByRecursion.{All-weaker}
 use Rattle.scale.specs.Order.{Scale, Lattice, AtMost}
 use Rattle.record.specs.declared.Record.{Record}
@@ -31,7 +31,7 @@ module _ {V : Type 0} {s : Scale V} (o : Lattice s) {t : Table} (a : Accepted t)
       (subst (AtMost s (ends s σ p t k).lower) (sym is) enclosed.0)
       (subst (λ v. AtMost s v (ends s σ p t k).upper) (sym is) enclosed.1)
 
-  tick_true : (n : ℕ) → All (TrueRecord s σ t) (tick_records s σ n t)
+  tick_true : (n : ℕ) → AllByRecursion (TrueRecord s σ t) (tick_records s σ n t)
   unfolding tick_records
   tick_true n = all_joined (TrueRecord s σ t) (rule_records s σ n t) 0 (length t.rules) (λ r i j.
       let h : r < length t.rules = omega arith in
@@ -42,6 +42,6 @@ module _ {V : Type 0} {s : Scale V} (o : Lattice s) {t : Table} (a : Accepted t)
       let up = (lasting s o t a σ n k (a.rules_fit r h)).0 in
       All-weaker _ _ (run_true n r h) (rule_records s σ n t r) (all_tell o r n v c b _ (tell_runs o r n v c (newly_settled s σ n t r) b (omega arith))))
 
-  pub all_true : (m : ℕ) → All (TrueRecord s σ t) (expected s σ m t)
+  pub all_true : (m : ℕ) → AllByRecursion (TrueRecord s σ t) (expected s σ m t)
   unfolding expected
   all_true m = all_joined (TrueRecord s σ t) (λ n. tick_records s σ n t) 0 m (λ n i j. tick_true n)

@@ -1,6 +1,6 @@
 -- What is promised of every run, at each of its calls, whatever samples follow. Assumes nothing.
 use Rattle.std.specs.Prelude.{◌≡◌, ℕ, ◌+◌, ◌-◌, ◌<◌, ◌≤◌, List, ◌++◌, map, length, get_or, take, drop, Result, slice_index_or}
-use Rattle.std.specs.List.{range_with_len, AllByRecursion as All}
+use Rattle.std.specs.List.{range_with_len, AllByRecursion}
 use Rattle.record.specs.declared.Record.{Record}
 use Rattle.scale.specs.Order.{Scale, AtMost}
 use Rattle.source.specs.declared.fault.Fault.{Fault}
@@ -48,7 +48,7 @@ module _ {V : Type 0} (s : Scale V) (σ : ℕ → ℕ → V) where
   -- What holds after a log that begins with these records waiting, in state x, of table t.
   pub record Promised {O : Type 0} (b : Box V O) (t : Table) (before : List (Record V)) (log : Log V) (x : State V O) : Type 0 where
     -- Verdicts: each record issued tells only what the formulas give, at each of its positions.
-    pub verdicts : All (TrueRecord t) (expected s σ (accepted log) t)
+    pub verdicts : AllByRecursion (TrueRecord t) (expected s σ (accepted log) t)
     -- Records: those taken, followed by those waiting, are those that waited at the start, followed by exactly the
     -- expected list, in order.
     pub records : taken log ++ b.waiting x.outbox ≡ before ++ expected s σ (accepted log) t
@@ -56,7 +56,7 @@ module _ {V : Type 0} (s : Scale V) (σ : ℕ → ℕ → V) where
     -- upward, with its value.
     pub once : (r : ℕ) → r < length t.rules → let k = rule_node t r in told_of r (expected s σ (accepted log) t) ≡ map (λ p. (p, val s σ t k p)) (range_with_len 0 (settled s σ (accepted log) t k))
     -- Each at the first tick after which its positions are so, by its lag, which is at most the rule's worst lag.
-    pub in_time : All (λ y. (y.first + y.lag < accepted log) × InTime s σ (y.first + y.lag) t y) (expected s σ (accepted log) t)
+    pub in_time : AllByRecursion (λ y. (y.first + y.lag < accepted log) × InTime s σ (y.first + y.lag) t y) (expected s σ (accepted log) t)
     -- A close now counts what the definitions owe, and as settled of each rule just the positions issued.
     pub closing : totals_of x.core ≡ totals s σ (accepted log) t
     pub counted : (r : ℕ) (d : RuleTotal) → r < length t.rules → let c = get_or (totals_of x.core).rules r d in (c.settled ≡ length (told_of r (expected s σ (accepted log) t))) × (c.settled + c.«open» ≡ accepted log)

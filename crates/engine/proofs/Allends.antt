@@ -17,7 +17,7 @@ use Rattle.settling.proofs.Sorts.{Inner}
 use Rattle.engine.specs.declared.keep.Keep.{Keep}
 use Rattle.engine.specs.Ending.{ends_from}
 use Rattle.engine.specs.State.{EndsAt, keep_of, AllAt}
-use Rattle.engine.specs.Ticking.{operand_of, Sound, AllButEndsKept, StillAt, EndsStored}
+use Rattle.engine.specs.Ticking.{operand_of, Sound, EndsInside, AllButEndsKept, StillAt, EndsStored}
 use Rattle.engine.proofs.Endstep.{ends_are}
 
 -- of the nodes those below k have their ends stored
@@ -49,7 +49,7 @@ module _ (nodes : List Node) (qs : List Keep) (space m : ℕ) (sound : Sound nod
         holds = ap (λ part. contents part (keep_of qs j).at) (regions_kept memory now others j (omega (arith, ap length is))) ∙ at.holds;
       }
 
-  module _ (k : ℕ) (h : k < length nodes) where
+  module _ (within : EndsInside nodes qs space) (k : ℕ) (h : k < length nodes) where
     abbrev its_node : Node
     its_node = get_or nodes k blank
 
@@ -57,11 +57,11 @@ module _ (nodes : List Node) (qs : List Keep) (space m : ℕ) (sound : Sound nod
     pub operand_room : (j : ℕ) → (sampled its_node.kind ≡ false → j < k) → (operand_of qs its_node k j).to + 2 ≤ space
     operand_room j below =
         ⊎_elim
-        (λ e. subst (λ (u : Keep). u.to + 2 ≤ space) (sym (cond-true _ _ _ e)) (sound.ends_inside k h))
-        (λ e. subst (λ (u : Keep). u.to + 2 ≤ space) (sym (cond-false _ _ _ e)) (sound.ends_inside j (omega (arith, below e))))
+        (λ e. subst (λ (u : Keep). u.to + 2 ≤ space) (sym (cond-true _ _ _ e)) (within k h))
+        (λ e. subst (λ (u : Keep). u.to + 2 ≤ space) (sym (cond-false _ _ _ e)) (within j (omega (arith, below e))))
         (cases_Bool (sampled its_node.kind))
 
-module _ {V : Type 0} (s : Scale V) (o : Lattice s) (nodes : List Node) (n : ℕ) (start : List V) (qs : List Keep) (sound : Sound nodes qs (length start) (suc n)) where
+module _ {V : Type 0} (s : Scale V) (o : Lattice s) (nodes : List Node) (n : ℕ) (start : List V) (qs : List Keep) (sound : Sound nodes qs (length start) (suc n)) (within : EndsInside nodes qs (length start)) where
   pub storing_start : Storing s nodes n start qs 0 start
   storing_start = record { others = λ a b free. refl; means = λ t σ acc is all j lt. absurd (omega arith) }
 
@@ -84,7 +84,7 @@ module _ {V : Type 0} (s : Scale V) (o : Lattice s) (nodes : List Node) (n : ℕ
       now = set (set memory q.to v) (q.to + 1) w
 
       inside : q.to + 2 ≤ length memory
-      inside = omega (arith, sound.ends_inside k h)
+      inside = omega (arith, within k h)
 
       at_lower : get_or now q.to s.lowest ≡ v
       at_lower = get_or-set_other (set memory q.to v) (q.to + 1) q.to w s.lowest (λ e. omega arith) ∙ get_or-set_same memory q.to v s.lowest (omega (arith, inside))
@@ -112,7 +112,7 @@ module _ {V : Type 0} (s : Scale V) (o : Lattice s) (nodes : List Node) (n : ℕ
         found =
             let y = node t k in
             let same : y ≡ x = ap (λ l. get_or l k blank) is in
-            let room : (j : ℕ) → (sampled x.kind ≡ false → j < k) → (operand_of qs x k j).to + 2 ≤ length memory = λ j below. omega (arith, operand_room nodes qs (length start) (suc n) sound k h j below) in
+            let room : (j : ℕ) → (sampled x.kind ≡ false → j < k) → (operand_of qs x k j).to + 2 ≤ length memory = λ j below. omega (arith, operand_room nodes qs (length start) (suc n) sound within k h j below) in
             let stands : Stands (length memory) q.from q.to q.at = subst (λ m. Stands m q.from q.to q.at) (sym long) (sound.stands k h) in
             subst (λ z. ends_from s memory z q (operand_of qs z k z.left) (operand_of qs z k z.right) n ≡ ends s σ n t k) same
             (ends_are o acc σ n k in_table memory q (operand_of qs y k y.left) (operand_of qs y k y.right) stands

@@ -66,10 +66,9 @@ module _ {V : Type 0} (s : Scale V) (o : Lattice s) (answers : ℕ → Result V 
 
     pub going_sound : length qs ≡ length begin → Sound nodes qs (length start) (suc n)
     going_sound long = record {
-      each = omega (arith, sound.each);
+      each = long ∙ sound.each;
       stands = going.stands;
       rising = λ j i lt h. let jr = going.regions j in let ir = going.regions i in omega (arith, sound.rising j i lt h);
-      ends_inside = λ j h. let jr = going.regions j in omega (arith, sound.ends_inside j h);
       counted = going.counted;
       windows = sound.windows;
       below = sound.below;

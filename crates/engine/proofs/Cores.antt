@@ -1,5 +1,6 @@
 -- What always holds of a monitor's state, before a tick and after it. Assumes nothing.
-use Rattle.std.proofs.Common.{◌≡◌, ℕ, suc, ◌+◌, ◌-◌, ◌<◌, ◌≤◌, max, List, length, ap, arith}
+use Rattle.std.proofs.Common.{◌≡◌, ℕ, suc, ◌+◌, ◌-◌, ◌<◌, ◌≤◌, max, List, length, take, sym, ap, subst, arith}
+use Rattle.std.proofs.lemmas.List.{length-take-le}
 use Rattle.queue.specs.Regions.{Stands}
 use Rattle.table.specs.declared.kind.Sort.{Sort}
 use Rattle.table.specs.declared.kind.Sort.TheVariants.{Leaf, Point, Ahead, Back}
@@ -15,6 +16,7 @@ use Rattle.engine.specs.declared.state.Core.{Core}
 use Rattle.engine.specs.Represents.{monitored}
 use Rattle.engine.specs.State.{keep_of}
 use Rattle.engine.specs.Ticking.{Sound, SameRegions}
+use Rattle.engine.proofs.Front.{in_front}
 
 -- a window that fits is not turned round
 upright : (s : Sort) (from to : ℕ) → Fits s from to → from ≤ to
@@ -30,15 +32,16 @@ module _ (c : Core) where
   pub queue_stands : (space : ℕ) → need t ≤ space → (k : ℕ) → k < size t → let q = keep_of c.keeps k in Stands space q.from q.to q.at
   queue_stands space room k h = record { ordered = c.ordered k h; inside = omega (arith, c.inside k h); fits = record { holds = c.holds k h; begins = c.begins k h } }
 
-  pub queues_sound : (space : ℕ) → need t ≤ space → 64 ≤ length c.keeps → Sound t.nodes c.keeps space c.ticks
+  -- the queues of the nodes, which stand in front of others
+  pub queues_sound : (space : ℕ) → need t ≤ space → 64 ≤ length c.keeps → Sound t.nodes (take (size t) c.keeps) space c.ticks
   queues_sound space room long =
       let a = plan_accepted c.plan in
+      let is : (k : ℕ) → k < size t → keep_of (take (size t) c.keeps) k ≡ keep_of c.keeps k = in_front (size t) c.keeps in
       record {
-        each = omega (arith, a.few_nodes);
-        stands = queue_stands space room;
-        rising = c.rising;
-        ends_inside = λ k h. omega (arith, c.inside k h);
-        counted = c.counted;
+        each = length-take-le (size t) c.keeps (omega (arith, a.few_nodes));
+        stands = λ k h. subst (λ (q : Keep). Stands space q.from q.to q.at) (sym (is k h)) (queue_stands space room k h);
+        rising = λ j k lt h. omega (arith, ap (λ (q : Keep). q.to) (is j (omega arith)), ap (λ (q : Keep). q.from) (is k h), c.rising j k lt h);
+        counted = λ k h. omega (arith, ap (λ (q : Keep). q.count) (is k h), c.counted k h);
         windows = λ k h. upright (shape (node t k).kind).sort (node t k).from (node t k).to (a.windows k h);
         below = λ k h inner. operands_before a k h inner;
       }
@@ -56,15 +59,18 @@ module _ (c : Core) where
     pub still_roomy : (k : ℕ) → k < size t → (keep_of qs k).to - (keep_of qs k).from ≡ places t k
     still_roomy k h = omega (arith, (regions k).0, (regions k).1, c.roomy k h)
 
-    module _ (nodes : List Node) (space n : ℕ) (sound : Sound nodes qs space n) (is : nodes ≡ t.nodes) where
+    module _ (nodes : List Node) (space n : ℕ) (sound : Sound nodes (take (length nodes) qs) space n) (is : nodes ≡ t.nodes) where
       here : (k : ℕ) → k < size t → k < length nodes
       here k h = omega (arith, ap length is)
 
+      own : (k : ℕ) → k < size t → keep_of (take (length nodes) qs) k ≡ keep_of qs k
+      own k h = in_front (length nodes) qs k (here k h)
+
       pub still_holds : (k : ℕ) → k < size t → (keep_of qs k).at.len ≤ (keep_of qs k).to - (keep_of qs k).from
-      still_holds k h = (sound.stands k (here k h)).fits.holds
+      still_holds k h = subst (λ (q : Keep). q.at.len ≤ q.to - q.from) (own k h) (sound.stands k (here k h)).fits.holds
 
       pub still_begins : (k : ℕ) → k < size t → (keep_of qs k).at.head < max ((keep_of qs k).to - (keep_of qs k).from) 1
-      still_begins k h = (sound.stands k (here k h)).fits.begins
+      still_begins k h = subst (λ (q : Keep). q.at.head < max (q.to - q.from) 1) (own k h) (sound.stands k (here k h)).fits.begins
 
       pub still_counted : (m : ℕ) → n ≤ m → (k : ℕ) → k < size t → (keep_of qs k).count ≤ m
-      still_counted m le k h = omega (arith, sound.counted k (here k h))
+      still_counted m le k h = omega (arith, ap (λ (q : Keep). q.count) (own k h), sound.counted k (here k h))

@@ -1,3 +1,4 @@
+pub mod Front
 pub mod Folding
 pub mod Running
 pub mod Nodestep

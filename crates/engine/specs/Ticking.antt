@@ -17,17 +17,20 @@ use Rattle.engine.specs.State.{keep_of, AllAt, AllEnds}
 abbrev pub sample_in : {V : Type 0} → Scale V → Result V Fault → V
 sample_in s r = unwrap_or (result_ok r) s.lowest
 
--- What keeps every access in its place: a queue for each node (the list may be longer), each in a region of its own behind those before it, with
--- two values behind each for its ends; none counts more than the ticks; windows are not turned round; operands stand before
+-- What keeps every access in its place: a queue for each node, each in a region of its own behind those before it, with
+-- two values between for its ends; none counts more than the ticks; windows are not turned round; operands stand before
 -- their node.
 pub record Sound (nodes : List Node) (qs : List Keep) (space n : ℕ) : Type 0 where
-  pub each : length nodes ≤ length qs
+  pub each : length qs ≡ length nodes
   pub stands : (k : ℕ) → k < length nodes → Stands space (keep_of qs k).from (keep_of qs k).to (keep_of qs k).at
   pub rising : (j k : ℕ) → j < k → k < length nodes → (keep_of qs j).to + 2 ≤ (keep_of qs k).from
-  pub ends_inside : (k : ℕ) → k < length nodes → (keep_of qs k).to + 2 ≤ space
   pub counted : (k : ℕ) → k < length nodes → (keep_of qs k).count ≤ n
   pub windows : (k : ℕ) → k < length nodes → (slice_index_or nodes k blank).from ≤ (slice_index_or nodes k blank).to
   pub below : (k : ℕ) → k < length nodes → sampled (slice_index_or nodes k blank).kind ≡ false → ((slice_index_or nodes k blank).left < k) × ((slice_index_or nodes k blank).right < k)
+
+-- and the ends behind each queue lie in the memory
+abbrev pub EndsInside : List Node → List Keep → (space : ℕ) → Type 0
+EndsInside nodes qs space = (k : ℕ) → k < length nodes → (keep_of qs k).to + 2 ≤ space
 
 -- row n of σ is what is answered for each sample node
 abbrev pub Asked : {V : Type 0} → (answers : ℕ → Result V Fault) → (ℕ → ℕ → V) → ℕ → Table → Type 0
@@ -45,13 +48,13 @@ sample_of s answers x = cond (sampled x.kind) (sample_in s (answers x.left)) s.l
 abbrev pub operand_of : List Keep → Node → (k operand : ℕ) → Keep
 operand_of qs x k j = cond (sampled x.kind) (keep_of qs k) (keep_of qs j)
 
--- a part of the memory that touches none of the regions 0 to size - 1 is as it was
+-- a part of the memory that no queue's region touches is as it was
+abbrev pub OthersKept : {V : Type 0} → List Keep → (size : ℕ) → (memory now : List V) → Type 0
+OthersKept qs size memory now = (a b : ℕ) → ((k : ℕ) → k < size → Apart (keep_of qs k).from (keep_of qs k).to a b) → between a b now ≡ between a b memory
+
+-- so is a part that touches none of the regions 0 to size - 1
 abbrev pub KeptAround : {V : Type 0} → (from to : ℕ → ℕ) → (size : ℕ) → (memory now : List V) → Type 0
 KeptAround from to size memory now = (a b : ℕ) → ((k : ℕ) → k < size → Apart (from k) (to k) a b) → between a b now ≡ between a b memory
-
--- so is all but the queues
-abbrev pub OthersKept : {V : Type 0} → List Keep → (size : ℕ) → (memory now : List V) → Type 0
-OthersKept qs = KeptAround (λ k. (keep_of qs k).from) (λ k. (keep_of qs k).to)
 
 -- all but the two ends behind each queue
 abbrev pub AllButEndsKept : {V : Type 0} → List Keep → (size : ℕ) → (memory now : List V) → Type 0

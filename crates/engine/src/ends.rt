@@ -3,7 +3,7 @@
 ghost use Rattle.std.specs.Prelude.{◌≡◌, suc, ◌+◌, ◌^◌, ◌<◌, ◌≤◌, length, slice_set};
 ghost use Rattle.queue.specs.Regions.{Stands};
 ghost use Rattle.engine.specs.Ending.{from_slots, ends_from};
-ghost use Rattle.engine.specs.Ticking.{Sound, AllButEndsKept, StillAt, EndsStored};
+ghost use Rattle.engine.specs.Ticking.{Sound, EndsInside, AllButEndsKept, StillAt, EndsStored};
 
 use super::keep::{Keep, keep_of, operand_of, read};
 use super::work::work_out;
@@ -92,6 +92,7 @@ fn store<V: Scale>(memory: &mut [V], slot: usize, ends: (V, V))
 pub(crate) fn ends_all<V: Scale>(nodes: &[Node], n: usize, memory: &mut [V], keeps: &[Keep])
     requires small { n < 2 ^ 24 }
     requires sound { Sound nodes.now keeps.now (length memory.old) (suc n) }
+    requires inside { EndsInside nodes.now keeps.now (length memory.old) }
     ensures others { AllButEndsKept keeps.now (length nodes.now) memory.old memory.new }
     ensures queues { StillAt V.Scale.scale nodes.now (suc n) memory.old memory.new keeps.now }
     ensures stored { EndsStored V.Scale.scale nodes.now n memory.old memory.new keeps.now }

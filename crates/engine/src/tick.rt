@@ -1,7 +1,7 @@
 //! All nodes at one tick.
-ghost use Rattle.std.specs.Prelude.{◌≡◌, suc, ◌^◌, ◌<◌, length};
+ghost use Rattle.std.specs.Prelude.{◌≡◌, suc, ◌^◌, ◌<◌, ◌≤◌, length, take};
 ghost use Rattle.source.specs.Frames.{answer};
-ghost use Rattle.engine.specs.Ticking.{sample_in, sample_of, Sound, SameRegions, OthersKept, AroundNodesKept, TakenOn, WholeTick};
+ghost use Rattle.engine.specs.Ticking.{sample_in, sample_of, Sound, EndsInside, SameRegions, OthersKept, AroundNodesKept, TakenOn, WholeTick};
 
 use super::ask::is_sample;
 use super::ends::ends_all;
@@ -56,7 +56,8 @@ pub(crate) fn settle_all<V: Scale, S: Source<Value = V>>(
     }
 }
 
-/// Tick `n` for all nodes: takes every queue on, and then stores the two ends behind each.
+/// Tick `n` for all nodes: takes every queue on, and then stores the two ends behind each. The nodes' queues stand in front
+/// of others.
 pub(crate) fn tick_all<V: Scale, S: Source<Value = V>>(
     nodes: &[Node],
     source: &S,
@@ -65,12 +66,15 @@ pub(crate) fn tick_all<V: Scale, S: Source<Value = V>>(
     keeps: &mut [Keep],
 )
     requires small { n < 2 ^ 24 }
-    requires sound { Sound nodes.now keeps.old (length memory.old) n }
-    ensures sound { Sound nodes.now keeps.new (length memory.new) (suc n) }
+    requires enough { length nodes.now ≤ length keeps.old }
+    requires sound { Sound nodes.now (take (length nodes.now) keeps.old) (length memory.old) n }
+    requires inside { EndsInside nodes.now keeps.old (length memory.old) }
+    ensures sound { Sound nodes.now (take (length nodes.now) keeps.new) (length memory.new) (suc n) }
     ensures regions { SameRegions keeps.old keeps.new }
     ensures others { AroundNodesKept keeps.old (length nodes.now) memory.old memory.new }
     ensures next { WholeTick V.Scale.scale (answer S.layer (S.frames source.now) n) nodes.now n memory.old memory.new keeps.old keeps.new }
 {
-    settle_all(nodes, source, n, memory, keeps);
-    ends_all(nodes, n, memory, keeps);
+    let size = nodes.len();
+    settle_all(nodes, source, n, memory, &mut keeps[..size]);
+    ends_all(nodes, n, memory, &keeps[..size]);
 }

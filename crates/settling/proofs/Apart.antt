@@ -1,6 +1,6 @@
 -- The records of a tick are in order, and equal neighbours are in one. Assumes nothing.
 use Rattle.std.proofs.Common.{ℕ, zero, suc, ◌+◌, ◌<◌, List, [], ◌∷◌, length, sym, refl, ◌∙◌, inl, inr, arith}
-use Rattle.std.specs.List.{range_with_len, flat_map, AllByRecursion as All}
+use Rattle.std.specs.List.{range_with_len, flat_map, AllByRecursion}
 use Rattle.std.proofs.ByRecursion.{All-weaker}
 use Rattle.scale.specs.Order.{Scale, Lattice}
 use Rattle.record.specs.declared.Record.{Record}
@@ -34,7 +34,7 @@ module _ {V : Type 0} {s : Scale V} (o : Lattice s) (σ : ℕ → ℕ → V) (n 
   from_rule : (r c : ℕ) → Linked Follows (flat_map (rule_records s σ n t) (range_with_len r c))
   from_rule r zero = tt
   from_rule r (suc c) =
-      let later : All (λ z. r < z.rule) (flat_map (rule_records s σ n t) (range_with_len (r + 1) c)) =
+      let later : AllByRecursion (λ z. r < z.rule) (flat_map (rule_records s σ n t) (range_with_len (r + 1) c)) =
       all_joined _ (rule_records s σ n t) (r + 1) c (λ q i j. All-weaker _ _ (λ z e. omega (arith, e)) (rule_records s σ n t q) (of_one_rule o σ n t q)) in
       linked_append Follows (rule_records s σ n t r) _ (in_rule r) (from_rule (r + 1) c)
       (All-weaker _ _ (λ y e. All-weaker _ _ (λ z lt. inl (omega (arith, e, lt))) _ later) (rule_records s σ n t r) (of_one_rule o σ n t r))

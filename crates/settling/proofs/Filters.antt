@@ -1,6 +1,6 @@
 -- The numbers of a range that pass a test: which they are, that they rise, and how many there may be. Assumes nothing.
 use Rattle.std.proofs.Common.{◌≡◌, ℕ, zero, suc, ◌+◌, ◌<◌, ◌≤◌, Bool, true, false, List, [], ◌∷◌, length, filter, sym, subst, ⊎_elim, arith}
-use Rattle.std.specs.List.{range_with_len, ContainsAt as Has, AllByRecursion as All}
+use Rattle.std.specs.List.{range_with_len, ContainsAt as Has, AllByRecursion}
 use Rattle.std.proofs.lemmas.List.FromFn.{length-range_with_len}
 use Rattle.std.proofs.ByRecursion.{All-weaker, all_kept_by}
 use Rattle.std.proofs.lemmas.List.Sums.{length-filter, count_by-le-length}
@@ -17,7 +17,7 @@ module _ (test : ℕ → Bool) where
   not_here : (a c : ℕ) → test a ≡ false → passed a (suc c) ≡ passed (a + 1) c
   not_here a c e = cond-false _ _ _ e
 
-  pub in_range : (a c : ℕ) → All (λ p. (a ≤ p) × (p < a + c)) (range_with_len a c)
+  pub in_range : (a c : ℕ) → AllByRecursion (λ p. (a ≤ p) × (p < a + c)) (range_with_len a c)
   in_range a zero = tt
   in_range a (suc c) = (omega arith, All-weaker _ _ (λ p h. omega arith) (range_with_len (a + 1) c) (in_range (a + 1) c))
 
@@ -57,6 +57,6 @@ module _ (test : ℕ → Bool) where
       (λ e. subst (Linked (λ p q. p < q)) (sym (not_here a c e)) (upward (a + 1) c))
       (cases_Bool (test a))
     where
-      after : (l : List ℕ) → All (λ p. (a + 1 ≤ p) × (p < a + 1 + c)) l → Linked (λ p q. p < q) l → Linked (λ p q. p < q) (a ∷ l)
+      after : (l : List ℕ) → AllByRecursion (λ p. (a + 1 ≤ p) × (p < a + 1 + c)) l → Linked (λ p q. p < q) l → Linked (λ p q. p < q) (a ∷ l)
       after [] all up = tt
       after (p ∷ l) all up = (omega (arith, all.0), up)

@@ -1,6 +1,6 @@
 -- Lists made from a range of numbers. Assumes nothing.
 use Rattle.std.proofs.Common.{◌≡◌, ℕ, zero, suc, ◌+◌, ◌<◌, ◌≤◌, List, [], ◌∷◌, ◌++◌, map, sym, refl, ap, ◌∙◌, ap₂, append_assoc, append-nil, arith}
-use Rattle.std.specs.List.{range_with_len, flat_map, AllByRecursion as All}
+use Rattle.std.specs.List.{range_with_len, flat_map, AllByRecursion}
 use Rattle.std.proofs.ByRecursion.{All-append}
 
 module _ {X : Type 0} where
@@ -31,7 +31,7 @@ module _ {Y : Type 0} where
   joined_same f g a zero h = refl
   joined_same f g a (suc c) h = ap₂ (λ x l. x ++ l) (h a (omega arith) (omega arith)) (joined_same f g (a + 1) c (λ p i j. h p (omega arith) (omega arith)))
 
-  pub all_joined : (P : Y → Type 0) (f : ℕ → List Y) (a c : ℕ) → ((p : ℕ) → a ≤ p → p < a + c → All P (f p)) → All P (flat_map f (range_with_len a c))
+  pub all_joined : (P : Y → Type 0) (f : ℕ → List Y) (a c : ℕ) → ((p : ℕ) → a ≤ p → p < a + c → AllByRecursion P (f p)) → AllByRecursion P (flat_map f (range_with_len a c))
   all_joined P f a zero h = tt
   all_joined P f a (suc c) h =
       All-append P (f a) (flat_map f (range_with_len (a + 1) c)) (h a (omega arith) (omega arith)) (all_joined P f (a + 1) c (λ p i j. h p (omega arith) (omega arith)))

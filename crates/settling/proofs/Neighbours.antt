@@ -1,6 +1,6 @@
 -- A relation between each element of a list and the next. Assumes nothing.
 use Rattle.std.proofs.Common.{ℕ, zero, suc, ◌<◌, List, [], ◌∷◌, ◌++◌, length, get_or, sym, subst, add-one, arith}
-use Rattle.std.specs.List.{AllAdjacentBelow, AllByRecursion as All}
+use Rattle.std.specs.List.{AllAdjacentBelow, AllByRecursion}
 
 module _ {X : Type 0} (R : X → X → Type 0) where
   abbrev pub Linked : List X → Type 0
@@ -19,7 +19,7 @@ module _ {X : Type 0} (R : X → X → Type 0) where
   neighbours xs h k d lt = subst (λ i. R (get_or xs k d) (get_or xs i d)) (sym (add-one k)) (next xs h k d (omega arith))
 
   -- two lists one after the other, where each element of the first may stand before each of the second
-  pub linked_append : (xs ys : List X) → Linked xs → Linked ys → All (λ x. All (R x) ys) xs → Linked (xs ++ ys)
+  pub linked_append : (xs ys : List X) → Linked xs → Linked ys → AllByRecursion (λ x. AllByRecursion (R x) ys) xs → Linked (xs ++ ys)
   linked_append [] ys h k all = k
   linked_append (x ∷ []) [] h k all = tt
   linked_append (x ∷ []) (y ∷ ys) h k all = (all.0.0, k)

@@ -1,6 +1,6 @@
 -- The records of consecutive positions tell each of them once, in order and with its verdict. Assumes nothing.
 use Rattle.std.proofs.Common.{◌≡◌, ℕ, zero, suc, ◌+◌, ◌-◌, ◌<◌, ◌≤◌, List, [], ◌∷◌, ◌++◌, map, sym, refl, ap, ◌∙◌, ap₂, ⊎_elim, arith}
-use Rattle.std.specs.List.{range_with_len, flat_map, AllByRecursion as All}
+use Rattle.std.specs.List.{range_with_len, flat_map, AllByRecursion}
 use Rattle.std.proofs.ByRecursion.{All-weaker}
 use Rattle.std.proofs.lemmas.Bool.{cases_lt, cond_both}
 use Rattle.scale.specs.Order.{Scale, Lattice, same}
@@ -72,7 +72,7 @@ module _ {V : Type 0} {s : Scale V} (o : Lattice s) (r n : ℕ) (v : ℕ → V) 
       ∙ sym (map_parts pair a c (b - suc y.last) (suc y.last) (b - a) (omega (arith, run.order, t.1)) (omega (arith, run.order, t.1)))
 
   -- each lies within the positions told
-  pub all_tell : (a b : ℕ) (ys : List (Record V)) → Tell r n v a b ys → All (Inside r n v a b) ys
+  pub all_tell : (a b : ℕ) (ys : List (Record V)) → Tell r n v a b ys → AllByRecursion (Inside r n v a b) ys
   all_tell a b [] t = tt
   all_tell a b (y ∷ ys) t =
       let run = t.0 in
@@ -82,7 +82,7 @@ module _ {V : Type 0} {s : Scale V} (o : Lattice s) (r n : ℕ) (v : ℕ → V) 
       )
 
 -- what tick n tells of rule r is of rule r
-pub of_one_rule : {V : Type 0} {s : Scale V} (o : Lattice s) (σ : ℕ → ℕ → V) (n : ℕ) (t : Table) (r : ℕ) → All (λ y. y.rule ≡ r) (rule_records s σ n t r)
+pub of_one_rule : {V : Type 0} {s : Scale V} (o : Lattice s) (σ : ℕ → ℕ → V) (n : ℕ) (t : Table) (r : ℕ) → AllByRecursion (λ y. y.rule ≡ r) (rule_records s σ n t r)
 of_one_rule {s = s} o σ n t r =
     let k = rule_node t r in
     let v = verdict s σ (suc n) t k in

@@ -1,6 +1,6 @@
 -- The records of a rule tell each settled position once, with its value, and close counts them. Assumes nothing.
 use Rattle.std.proofs.Common.{◌≡◌, ℕ, zero, suc, ◌+◌, ◌-◌, ◌<◌, ◌≤◌, List, [], ◌∷◌, ◌++◌, map, length, get_or, filter, sym, refl, ap, ◌∙◌, subst, ap₂, ⊎_elim, append-nil, arith}
-use Rattle.std.specs.List.{range_with_len, flat_map, AllByRecursion as All}
+use Rattle.std.specs.List.{range_with_len, flat_map, AllByRecursion}
 use Rattle.std.proofs.lemmas.List.FromFn.{length-map-range_with_len}
 use Rattle.std.proofs.lemmas.List.Elements.{filter-append}
 use Rattle.std.proofs.lemmas.Bool.{cases_eq, cond-true, cond-false, eq-eqb, ne_eqb}
@@ -25,12 +25,12 @@ unfolding expected
 expected_next s σ n t = joined_next (λ n. tick_records s σ n t) 0 n n (omega arith)
 
 -- of lists of records that each have one rule, one has rule j
-module _ {V : Type 0} (f : ℕ → List (Record V)) (own : (r : ℕ) → All (λ y. y.rule ≡ r) (f r)) (j : ℕ) where
-  all_kept : (ys : List (Record V)) → All (λ y. y.rule ≡ j) ys → filter (of_rule j) ys ≡ ys
+module _ {V : Type 0} (f : ℕ → List (Record V)) (own : (r : ℕ) → AllByRecursion (λ y. y.rule ≡ r) (f r)) (j : ℕ) where
+  all_kept : (ys : List (Record V)) → AllByRecursion (λ y. y.rule ≡ j) ys → filter (of_rule j) ys ≡ ys
   all_kept [] h = refl
   all_kept (y ∷ ys) h = cond-true _ _ _ (eq-eqb _ _ h.0) ∙ ap (λ l. y ∷ l) (all_kept ys h.1)
 
-  none_kept : (r : ℕ) (ys : List (Record V)) → (r ≡ j → ⊥) → All (λ y. y.rule ≡ r) ys → filter (of_rule j) ys ≡ []
+  none_kept : (r : ℕ) (ys : List (Record V)) → (r ≡ j → ⊥) → AllByRecursion (λ y. y.rule ≡ r) ys → filter (of_rule j) ys ≡ []
   none_kept r [] d h = refl
   none_kept r (y ∷ ys) d h = cond-false _ _ _ (ne_eqb _ _ (λ e. d (sym h.0 ∙ e))) ∙ none_kept r ys d h.1
 
@@ -46,7 +46,7 @@ module _ {V : Type 0} (f : ℕ → List (Record V)) (own : (r : ℕ) → All (λ
       filter-append _ (f a) (flat_map f (range_with_len (a + 1) c))
       ∙ ⊎_elim
       (λ e.
-      ap₂ (λ l m. l ++ m) (all_kept (f a) (subst (λ q. All (λ y. y.rule ≡ q) (f a)) e (own a))) (later_rules (a + 1) c (omega arith))
+      ap₂ (λ l m. l ++ m) (all_kept (f a) (subst (λ q. AllByRecursion (λ y. y.rule ≡ q) (f a)) e (own a))) (later_rules (a + 1) c (omega arith))
       ∙ append-nil (f a)
       ∙ ap f e)
       (λ d. ap₂ (λ l m. l ++ m) (none_kept a (f a) d (own a)) (kept_own (a + 1) c (omega arith) (omega arith)))

@@ -1,6 +1,6 @@
 -- Each record is issued at the first tick possible, no later than the worst lag. Assumes nothing.
 use Rattle.std.proofs.Common.{ℕ, suc, ◌+◌, ◌<◌, ◌≤◌, length, sym, subst, arith}
-use Rattle.std.specs.List.{AllByRecursion as All}
+use Rattle.std.specs.List.{AllByRecursion}
 use Rattle.std.proofs.ByRecursion.{All-weaker}
 use Rattle.scale.specs.Order.{Scale, Lattice}
 use Rattle.record.specs.declared.Record.{Record}
@@ -35,7 +35,7 @@ module _ {V : Type 0} {s : Scale V} (o : Lattice s) {t : Table} (a : Accepted t)
         bound = subst (λ w. y.lag ≤ worst t (rule_node t w)) (sym own) (omega arith);
       }
 
-  tick_in_time : (n : ℕ) → All (InTime s σ n t) (tick_records s σ n t)
+  tick_in_time : (n : ℕ) → AllByRecursion (InTime s σ n t) (tick_records s σ n t)
   unfolding tick_records
   tick_in_time n = all_joined (InTime s σ n t) (rule_records s σ n t) 0 (length t.rules) (λ r i j.
       let h : r < length t.rules = omega arith in
@@ -50,7 +50,7 @@ module _ {V : Type 0} {s : Scale V} (o : Lattice s) {t : Table} (a : Accepted t)
   own_tick : (m n : ℕ) → n < m → (y : Record V) → InTime s σ n t y → (y.first + y.lag < m) × InTime s σ (y.first + y.lag) t y
   own_tick m n lt y i = (omega (arith, i.lag), subst (λ q. InTime s σ q t y) (sym i.lag) i)
 
-  expected_in_time : (m : ℕ) → All (λ y. (y.first + y.lag < m) × InTime s σ (y.first + y.lag) t y) (expected s σ m t)
+  expected_in_time : (m : ℕ) → AllByRecursion (λ y. (y.first + y.lag < m) × InTime s σ (y.first + y.lag) t y) (expected s σ m t)
   unfolding expected
   expected_in_time m = all_joined _ (λ n. tick_records s σ n t) 0 m (λ n i j. All-weaker _ _ (own_tick m n (omega arith)) (tick_records s σ n t) (tick_in_time n))
 

@@ -1,6 +1,6 @@
 -- What is promised of the records, of their time and number, and of the totals. Assumes nothing.
 use Rattle.std.specs.Prelude.{◌≡◌, ℕ, suc, ◌+◌, ◌-◌, ◌<◌, ◌≤◌, Bool, ◌⊎◌, List, map, length, filter, ◌==◌, ◌≢◌, slice_index_or}
-use Rattle.std.specs.List.{range_with_len, flat_map, AllAdjacentBelow, AllByRecursion as All}
+use Rattle.std.specs.List.{range_with_len, flat_map, AllAdjacentBelow, AllByRecursion}
 use Rattle.scale.specs.Order.{Scale}
 use Rattle.record.specs.declared.Record.{Record}
 use Rattle.table.specs.Lags.{worst}
@@ -47,8 +47,8 @@ pub record InTime {V : Type 0} (s : Scale V) (σ : ℕ → ℕ → V) (n : ℕ) 
 -- each record of a tick is in time, and so each of the expected list is, at a tick before m
 abbrev pub AllInTime : Type 0 → Type 0
 AllInTime V = Everywhere V λ s t σ.
-    ((n : ℕ) → All (InTime s σ n t) (tick_records s σ n t))
-    × ((m : ℕ) → All (λ y. (y.first + y.lag < m) × InTime s σ (y.first + y.lag) t y) (expected s σ m t))
+    ((n : ℕ) → AllByRecursion (InTime s σ n t) (tick_records s σ n t))
+    × ((m : ℕ) → AllByRecursion (λ y. (y.first + y.lag < m) × InTime s σ (y.first + y.lag) t y) (expected s σ m t))
 
 -- z may come after y in one tick: it is of a later rule, or goes on with the same rule where y ends, with another verdict
 abbrev pub Follows : {V : Type 0} → Record V → Record V → Type 0

@@ -1,7 +1,7 @@
 -- What rows answer to the samples of a table. Assumes nothing.
 use Rattle.std.proofs.Common.{◌≡◌, ℕ, zero, suc, ◌+◌, ◌*◌, ◌<◌, ◌≤◌, Bool, true, false, cond, leb, ◌⊎◌, List, [], ◌∷◌, length, get_or, Some, None, Ok, Err, Option, Result, sym, refl, ap, ◌∙◌, subst, inl, inr, ⊎_elim, arith}
 use Rattle.std.proofs.lemmas.Bool.{cases_Bool, cases_lt, cond-true, cond-false, le-leb, lt-leb}
-use Rattle.std.specs.List.{AllByRecursion as All}
+use Rattle.std.specs.List.{AllByRecursion}
 use Rattle.source.specs.declared.fault.Fault.{Fault}
 use Rattle.source.specs.declared.fault.Refusal.TheVariants.{PastLength, PastWidth}
 use Rattle.source.specs.Faults.{refused_with}
@@ -20,15 +20,15 @@ Answered {V} r = (v : V) × (r ≡ Ok v)
 
 module _ {V : Type 0} (ask : ℕ → Result V Fault) where
   -- no fault: every sample was answered
-  pub all_answered : (cs : List ℕ) → None ≡ first_fault ask cs → All (λ c. Answered (ask c)) cs
+  pub all_answered : (cs : List ℕ) → None ≡ first_fault ask cs → AllByRecursion (λ c. Answered (ask c)) cs
   all_answered [] e = tt
   all_answered (c ∷ cs) e = by_answer (ask c) refl (all_answered cs)
     where
-      by_answer : (r : Result V Fault) → ask c ≡ r → (None ≡ first_fault ask cs → All (λ c. Answered (ask c)) cs) → Answered (ask c) × All (λ c. Answered (ask c)) cs
+      by_answer : (r : Result V Fault) → ask c ≡ r → (None ≡ first_fault ask cs → AllByRecursion (λ c. Answered (ask c)) cs) → Answered (ask c) × AllByRecursion (λ c. Answered (ask c)) cs
       by_answer (Ok v) is rest = ((v, is), rest (e ∙ ap (λ r. fault_or r (first_fault ask cs)) is))
       by_answer (Err f) is rest = let no : None ≡ Some f = e ∙ ap (λ r. fault_or r (first_fault ask cs)) is in let z : ◌≡◌ {A = ℕ} 0 1 = cc in absurd (omega arith)
 
-  pub no_fault : (cs : List ℕ) → All (λ c. Answered (ask c)) cs → None ≡ first_fault ask cs
+  pub no_fault : (cs : List ℕ) → AllByRecursion (λ c. Answered (ask c)) cs → None ≡ first_fault ask cs
   no_fault [] h = refl
   no_fault (c ∷ cs) h = no_fault cs h.1 ∙ sym (ap (λ r. fault_or r (first_fault ask cs)) h.0.1)
 
@@ -37,24 +37,24 @@ module _ {V : Type 0} (ask : ℕ → Result V Fault) where
   first_of c cs f e = ap (λ r. fault_or r (first_fault ask cs)) e
 
 -- what holds of every sample that is asked for holds of each sample node's, and the other way round
-pub of_nodes : (P : ℕ → Type 0) (nodes : List Node) → All P (samples_of nodes) → (k : ℕ) → k < length nodes → sampled (get_or nodes k blank).kind ≡ true → P (get_or nodes k blank).left
+pub of_nodes : (P : ℕ → Type 0) (nodes : List Node) → AllByRecursion P (samples_of nodes) → (k : ℕ) → k < length nodes → sampled (get_or nodes k blank).kind ≡ true → P (get_or nodes k blank).left
 of_nodes P [] h k lt e = absurd (omega arith)
-of_nodes P (x ∷ xs) h zero lt e = (subst (All P) (cond-true (sampled x.kind) (x.left ∷ samples_of xs) (samples_of xs) e) h).0
+of_nodes P (x ∷ xs) h zero lt e = (subst (AllByRecursion P) (cond-true (sampled x.kind) (x.left ∷ samples_of xs) (samples_of xs) e) h).0
 of_nodes P (x ∷ xs) h (suc k) lt e =
     of_nodes P xs
     (⊎_elim
-    (λ t. (subst (All P) (cond-true (sampled x.kind) (x.left ∷ samples_of xs) (samples_of xs) t) h).1)
-    (λ f. subst (All P) (cond-false (sampled x.kind) (x.left ∷ samples_of xs) (samples_of xs) f) h)
+    (λ t. (subst (AllByRecursion P) (cond-true (sampled x.kind) (x.left ∷ samples_of xs) (samples_of xs) t) h).1)
+    (λ f. subst (AllByRecursion P) (cond-false (sampled x.kind) (x.left ∷ samples_of xs) (samples_of xs) f) h)
     (cases_Bool (sampled x.kind)))
     k (omega arith) e
 
-pub of_samples : (P : ℕ → Type 0) (nodes : List Node) → ((k : ℕ) → k < length nodes → sampled (get_or nodes k blank).kind ≡ true → P (get_or nodes k blank).left) → All P (samples_of nodes)
+pub of_samples : (P : ℕ → Type 0) (nodes : List Node) → ((k : ℕ) → k < length nodes → sampled (get_or nodes k blank).kind ≡ true → P (get_or nodes k blank).left) → AllByRecursion P (samples_of nodes)
 of_samples P [] h = tt
 of_samples P (x ∷ xs) h =
     let rest = of_samples P xs (λ k lt e. h (suc k) (omega arith) e) in
     ⊎_elim
-    (λ t. subst (All P) (sym (cond-true (sampled x.kind) (x.left ∷ samples_of xs) (samples_of xs) t)) (h 0 (omega arith) t, rest))
-    (λ f. subst (All P) (sym (cond-false (sampled x.kind) (x.left ∷ samples_of xs) (samples_of xs) f)) rest)
+    (λ t. subst (AllByRecursion P) (sym (cond-true (sampled x.kind) (x.left ∷ samples_of xs) (samples_of xs) t)) (h 0 (omega arith) t, rest))
+    (λ f. subst (AllByRecursion P) (sym (cond-false (sampled x.kind) (x.left ∷ samples_of xs) (samples_of xs) f)) rest)
     (cases_Bool (sampled x.kind))
 
 -- the first node of an accepted table is a sample

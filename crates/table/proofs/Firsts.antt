@@ -2,7 +2,7 @@
 use Rattle.std.proofs.Common.{◌≡◌, ℕ, zero, suc, ◌+◌, ◌<◌, ◌≤◌, true, false, List, [], ◌∷◌, ◌++◌, Some, None, sym, refl, ap, ◌∙◌, subst, ⊎_elim, arith}
 use Rattle.std.proofs.ByRecursion.{All-append}
 use Rattle.std.proofs.lemmas.Bool.{cases_Bool, cases_eq, cond-true, cond-false}
-use Rattle.std.specs.List.{range_with_len, flat_map, AllByRecursion as All}
+use Rattle.std.specs.List.{range_with_len, flat_map, AllByRecursion}
 use Rattle.table.specs.declared.fault.TableFault.{TableFault}
 use Rattle.table.specs.Refusals.{Test, first}
 
@@ -10,7 +10,7 @@ use Rattle.table.specs.Refusals.{Test, first}
 abbrev pub Absent : Test → Type 0
 Absent t = t.there ≡ false
 
-pub none_there : (ts : List Test) → first ts ≡ None → All Absent ts
+pub none_there : (ts : List Test) → first ts ≡ None → AllByRecursion Absent ts
 none_there [] e = tt
 none_there (t ∷ ts) e =
     ⊎_elim
@@ -18,12 +18,12 @@ none_there (t ∷ ts) e =
     (λ gone. (gone, none_there ts (sym (cond-false _ _ _ gone) ∙ e)))
     (cases_Bool t.there)
 
-pub first_absent : (ts : List Test) → All Absent ts → first ts ≡ None
+pub first_absent : (ts : List Test) → AllByRecursion Absent ts → first ts ≡ None
 first_absent [] gone = refl
 first_absent (t ∷ ts) gone = cond-false _ _ _ gone.0 ∙ first_absent ts gone.1
 
 -- what is so of each fault that is there is so of the first
-pub first_holds : (Q : TableFault → Type 0) (f : TableFault) (ts : List Test) → All (λ t. t.there ≡ true → Q t.fault) ts → first ts ≡ Some f → Q f
+pub first_holds : (Q : TableFault → Type 0) (f : TableFault) (ts : List Test) → AllByRecursion (λ t. t.there ≡ true → Q t.fault) ts → first ts ≡ Some f → Q f
 first_holds Q f [] all e = let z : ◌≡◌ {A = ℕ} 0 1 = cc in absurd (omega arith)
 first_holds Q f (t ∷ ts) all e =
     ⊎_elim
@@ -50,7 +50,7 @@ none_both (x ∷ xs) ys e =
     let rest = none_both xs ys (sym (cond-false _ _ _ gone) ∙ e) in
     (cond-false _ _ _ gone ∙ rest.0, rest.1)
 
-pub all_parts : (P : Test → Type 0) (xs ys : List Test) → All P (xs ++ ys) → All P xs × All P ys
+pub all_parts : (P : Test → Type 0) (xs ys : List Test) → AllByRecursion P (xs ++ ys) → AllByRecursion P xs × AllByRecursion P ys
 all_parts P [] ys all = (tt, all)
 all_parts P (x ∷ xs) ys all = let rest = all_parts P xs ys all.1 in ((all.0, rest.0), rest.1)
 
@@ -78,15 +78,15 @@ module _ (g : ℕ → List Test) where
       (cases_eq a j)
 
 module _ (P : Test → Type 0) (g : ℕ → List Test) where
-  pub all_joined : (a c : ℕ) → ((j : ℕ) → a ≤ j → j < a + c → All P (g j)) → All P (flat_map g (range_with_len a c))
+  pub all_joined : (a c : ℕ) → ((j : ℕ) → a ≤ j → j < a + c → AllByRecursion P (g j)) → AllByRecursion P (flat_map g (range_with_len a c))
   all_joined a zero h = tt
   all_joined a (suc c) h = All-append P (g a) (flat_map g (range_with_len (a + 1) c)) (h a (omega arith) (omega arith)) (all_joined (a + 1) c (λ j p q. h j (omega arith) (omega arith)))
 
-  pub all_each : (a c : ℕ) → All P (flat_map g (range_with_len a c)) → (j : ℕ) → a ≤ j → j < a + c → All P (g j)
+  pub all_each : (a c : ℕ) → AllByRecursion P (flat_map g (range_with_len a c)) → (j : ℕ) → a ≤ j → j < a + c → AllByRecursion P (g j)
   all_each a zero all j p q = absurd (omega arith)
   all_each a (suc c) all j p q =
       let both = all_parts P (g a) (flat_map g (range_with_len (a + 1) c)) all in
       ⊎_elim
-      (λ e. subst (λ n. All P (g n)) e both.0)
+      (λ e. subst (λ n. AllByRecursion P (g n)) e both.0)
       (λ ne. all_each (a + 1) c both.1 j (omega arith) (omega arith))
       (cases_eq a j)

@@ -1,7 +1,7 @@
 -- The tests of the check, one for each fault. Assumes nothing.
 use Rattle.std.proofs.Common.{◌≡◌, ℕ, ◌<◌, Bool, true, not, ◌&&◌, ◌||◌, eqb, ltb, leb, List, [], ◌∷◌, ◌++◌, length, arith}
 use Rattle.std.proofs.ByRecursion.{All-append}
-use Rattle.std.specs.List.{range_with_len, flat_map, AllByRecursion as All}
+use Rattle.std.specs.List.{range_with_len, flat_map, AllByRecursion}
 use Rattle.table.specs.declared.fault.TableFault.{TableFault}
 use Rattle.table.specs.declared.fault.TableFault.TheVariants.{NodeCount, RuleCount, UnknownKind, Misplaced, Window, LateOperand, TooLate, NoSuchNode, Unused, TooMuchMemory}
 use Rattle.table.specs.Kinds.{past}
@@ -60,39 +60,39 @@ module _ (unknown : ℕ → Bool) (t : Table) where
 
   -- what is so of the test of each fault is so of all tests
   module _ (P : Test → Type 0) (each : (f : TableFault) → InTable f → P (test_of f)) where
-    each_of_node : (k : ℕ) → k < size t → All P (node_tests unknown t k)
+    each_of_node : (k : ℕ) → k < size t → AllByRecursion P (node_tests unknown t k)
     each_of_node k h = (each (UnknownKind k) h, (each (Misplaced k) h, (each (Window k) h, (each (LateOperand k) h, (each (TooLate k) h, tt)))))
 
-    all_nodes : All P of_nodes
+    all_nodes : AllByRecursion P of_nodes
     all_nodes = all_joined P (node_tests unknown t) 0 (size t) (λ k a b. each_of_node k (omega arith))
 
-    all_rules : All P of_rules
+    all_rules : AllByRecursion P of_rules
     all_rules = all_joined P (rule_tests (size t) t.rules) 0 (length t.rules) (λ r a b. (each (NoSuchNode r) (omega arith), tt))
 
-    all_uses : All P of_uses
+    all_uses : AllByRecursion P of_uses
     all_uses = all_joined P (use_tests t) 0 (size t) (λ k a b. (each (Unused k) (omega arith), tt))
 
-    all_but_counts : All P (of_nodes ++ (of_rules ++ (of_uses ++ of_memory)))
+    all_but_counts : AllByRecursion P (of_nodes ++ (of_rules ++ (of_uses ++ of_memory)))
     all_but_counts =
         All-append P of_nodes (of_rules ++ (of_uses ++ of_memory)) all_nodes
         (All-append P of_rules (of_uses ++ of_memory) all_rules
         (All-append P of_uses of_memory all_uses (each TooMuchMemory tt, tt)))
 
-    pub all_tests : All P (tests unknown t)
+    pub all_tests : AllByRecursion P (tests unknown t)
     all_tests = (each NodeCount tt, (each RuleCount tt, all_but_counts))
 
   -- and the other way round
-  module _ (P : Test → Type 0) (all : All P (tests unknown t)) where
-    from_nodes : All P of_nodes × All P (of_rules ++ (of_uses ++ of_memory))
+  module _ (P : Test → Type 0) (all : AllByRecursion P (tests unknown t)) where
+    from_nodes : AllByRecursion P of_nodes × AllByRecursion P (of_rules ++ (of_uses ++ of_memory))
     from_nodes = all_parts P of_nodes (of_rules ++ (of_uses ++ of_memory)) all.1.1
 
-    from_rules : All P of_rules × All P (of_uses ++ of_memory)
+    from_rules : AllByRecursion P of_rules × AllByRecursion P (of_uses ++ of_memory)
     from_rules = all_parts P of_rules (of_uses ++ of_memory) from_nodes.1
 
-    from_uses : All P of_uses × All P of_memory
+    from_uses : AllByRecursion P of_uses × AllByRecursion P of_memory
     from_uses = all_parts P of_uses of_memory from_rules.1
 
-    node_each : (k : ℕ) → k < size t → All P (node_tests unknown t k)
+    node_each : (k : ℕ) → k < size t → AllByRecursion P (node_tests unknown t k)
     node_each k h = all_each P (node_tests unknown t) 0 (size t) from_nodes.0 k (omega arith) (omega arith)
 
     pub each_test : (f : TableFault) → InTable f → P (test_of f)

@@ -2,7 +2,7 @@
 use Rattle.std.proofs.Common.{◌≡◌, ℕ, zero, suc, ◌+◌, ◌≤◌, true, List, [], ◌∷◌, ◌++◌, Some, sym, ◌∙◌, subst, ⊎_elim, append_assoc, arith}
 use Rattle.std.proofs.ByRecursion.{All-weaker}
 use Rattle.std.proofs.lemmas.Bool.{cases_Bool, cond-true, cond-false, both_ways}
-use Rattle.std.specs.List.{range_with_len, flat_map, AllByRecursion as All}
+use Rattle.std.specs.List.{range_with_len, flat_map, AllByRecursion}
 use Rattle.table.specs.declared.fault.TableFault.{TableFault}
 use Rattle.table.specs.Refusals.{Test, first}
 use Rattle.table.specs.Checking.{stage, place, number, Before}
@@ -26,19 +26,19 @@ pub rising_from : (f g : TableFault) (ts : List Test) → Upto f g → Rising g 
 rising_from f g [] u r = tt
 rising_from f g (t ∷ ts) u r = (upto_upto f g t.fault u r.0, r.1)
 
-all_later : (f : TableFault) (ts : List Test) → Rising f ts → All (λ t. Upto f t.fault) ts
+all_later : (f : TableFault) (ts : List Test) → Rising f ts → AllByRecursion (λ t. Upto f t.fault) ts
 all_later f [] r = tt
 all_later f (t ∷ ts) r = (r.0, all_later f ts (rising_from f t.fault ts r.0 r.1))
 
 -- all that are there come at the place of the first, or after it
-pub first_leads : (e f : TableFault) (ts : List Test) → Rising e ts → first ts ≡ Some f → All (λ t. t.there ≡ true → Upto f t.fault) ts
+pub first_leads : (e f : TableFault) (ts : List Test) → Rising e ts → first ts ≡ Some f → AllByRecursion (λ t. t.there ≡ true → Upto f t.fault) ts
 first_leads e f [] r found = tt
 first_leads e f (t ∷ ts) r found =
     ⊎_elim
     (λ there.
     let own : Some t.fault ≡ Some f = sym (cond-true _ _ _ there) ∙ found in
     let same : t.fault ≡ f = cc in
-    subst (λ q. All (λ s. s.there ≡ true → Upto q s.fault) (t ∷ ts)) same
+    subst (λ q. AllByRecursion (λ s. s.there ≡ true → Upto q s.fault) (t ∷ ts)) same
     (λ yes. omega arith, All-weaker _ _ (λ s u yes. u) ts (all_later t.fault ts r.1)))
     (λ gone. (λ yes. absurd (both_ways _ gone yes), first_leads t.fault f ts r.1 (sym (cond-false _ _ _ gone) ∙ found)))
     (cases_Bool t.there)

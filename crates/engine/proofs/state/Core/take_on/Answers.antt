@@ -1,4 +1,4 @@
-use Rattle.std.proofs.Common.{◌≡◌, ℕ, suc, ◌+◌, length, sym, refl, ap, ◌∙◌, subst, arith}
+use Rattle.std.proofs.Common.{◌≡◌, ℕ, suc, ◌+◌, length, take, sym, refl, ap, ◌∙◌, subst, arith}
 use Rattle.source.specs.Frames.{answer}
 use Rattle.table.specs.Places.{need as need_of}
 use Rattle.engine.specs.Represents.{monitored}
@@ -14,7 +14,9 @@ tick_all-requires g c =
     let core = c.args.self.now in
     record {
       small = c.requires.few;
-      sound = subst (λ ns. Sound ns core.keeps (length c.args.memory.now) core.ticks) (sym c.nodes.ensures) (queues_sound core (length c.args.memory.now) c.requires.room (omega arith));
+      enough = omega (arith, ap length c.nodes.ensures, (plan_accepted core.plan).few_nodes);
+      sound = subst (λ ns. Sound ns (take (length ns) core.keeps) (length c.args.memory.now) core.ticks) (sym c.nodes.ensures) (queues_sound core (length c.args.memory.now) c.requires.room (omega arith));
+      inside = λ k h. omega (arith, core.inside k (omega (arith, ap length c.nodes.ensures)), c.requires.room);
     }
 
 pub invariant_of-self : goal.invariant_of-self
