@@ -1,5 +1,5 @@
 -- A record in 16 bytes, and read back. Assumes nothing.
-use Rattle.std.specs.Prelude.{◌≡◌, ℕ, ◌+◌, ◌*◌, ◌/◌, ◌%◌, List, [], ◌∷◌, ◌++◌, Option, slice_index}
+use Rattle.std.specs.Prelude.{ℕ, ◌+◌, ◌*◌, ◌/◌, ◌%◌, List, [], ◌∷◌, ◌++◌, Option, slice_index}
 use Rattle.std.specs.Option.{unwrap_or}
 use Rattle.record.specs.declared.Record.{Record}
 use Rattle.scale.specs.Order.{Scale}

@@ -1,5 +1,5 @@
 -- The value of each code of 16 bits, on the two scales. Assumes nothing.
-use Rattle.std.specs.Prelude.{◌≡◌, ℕ, zero, suc, ◌-◌, Bool, true, false, ℤ, pos, negsuc, Some, None, Option, nat_lt, refl}
+use Rattle.std.specs.Prelude.{◌≡◌, ℕ, zero, suc, ◌-◌, Bool, true, false, pos, negsuc, Some, None, Option, nat_lt, refl}
 use Rattle.std.proofs.Common.{ltb-true, arith}
 use Rattle.std.proofs.lemmas.Int.{ints}
 use Rattle.margin.specs.declared.Margin.{Margin}

@@ -1,5 +1,5 @@
 -- What a run keeps from call to call: what the monitor stands for, and what was issued. Assumes nothing.
-use Rattle.std.proofs.Common.{◌≡◌, ℕ, suc, ◌+◌, ◌<◌, List, [], ◌∷◌, ◌++◌, Ok, Err, Result, sym, refl, ap, ◌∙◌, subst, arith}
+use Rattle.std.proofs.Common.{◌≡◌, ℕ, suc, ◌+◌, List, [], ◌∷◌, ◌++◌, Ok, Err, Result, sym, refl, ap, ◌∙◌, subst, arith}
 use Rattle.std.proofs.lemmas.List.{append-nil, append_assoc}
 use Rattle.table_check.specs.Plans.{table_of}
 use Rattle.record.specs.declared.Record.{Record}
@@ -9,7 +9,7 @@ use Rattle.settling.specs.Records.{tick_records, expected}
 use Rattle.settling.proofs.Telling.{expected_next}
 use Rattle.table.specs.Tables.{Table}
 use Rattle.engine.specs.declared.state.Core.{Core}
-use Rattle.engine.specs.Represents.{Represents, monitored}
+use Rattle.engine.specs.Represents.{Represents}
 use Rattle.engine.specs.Ticking.{Asked}
 use Rattle.monitor.specs.Running.{Ran}
 use Rattle.calls.specs.declared.call.Call.{Call}

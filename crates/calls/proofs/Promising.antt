@@ -1,5 +1,5 @@
 -- All that is promised of a run, from what it keeps, and at each of its calls. Assumes nothing.
-use Rattle.std.proofs.Common.{◌≡◌, ℕ, zero, suc, ◌+◌, ◌<◌, ◌≤◌, List, [], ◌∷◌, ◌++◌, length, get_or, take, drop, Result, sym, ap, ◌∙◌, subst, arith}
+use Rattle.std.proofs.Common.{◌≡◌, ℕ, zero, suc, ◌+◌, ◌≤◌, [], ◌∷◌, ◌++◌, length, get_or, take, drop, Result, sym, ap, ◌∙◌, subst, arith}
 use native.Mathlib.Decide.{dec_lt}
 use Rattle.std.proofs.lemmas.List.{length_push, take_all, drop_all, take-append-le, drop-append-le}
 use Rattle.table_check.specs.Plans.{table_of}
@@ -17,11 +17,9 @@ use Rattle.engine.specs.Represents.{Represents}
 use Rattle.engine.specs.State.{keep_of, AllAt}
 use Rattle.monitor.specs.Calls.{totals_of}
 use Rattle.monitor.proofs.Counting.{totals_owed}
-use Rattle.calls.specs.declared.call.Call.{Call}
-use Rattle.calls.specs.declared.call.Answer.{Answer}
 use Rattle.calls.specs.States.{Box, State, table_at}
 use Rattle.calls.specs.Runs.{Log, Run, start, more, accepted}
-use Rattle.calls.specs.Promises.{GoesOn, Promised, KeptAfter, AlwaysKept}
+use Rattle.calls.specs.Promises.{GoesOn, Promised, AlwaysKept}
 use Rattle.calls.proofs.Following.{Following, following}
 use Rattle.calls.proofs.Queued.{queue_keeps}
 use Rattle.calls.proofs.Truth.{all_true}

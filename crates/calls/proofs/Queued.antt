@@ -7,7 +7,6 @@ use Rattle.scale.specs.Order.{Scale, Lattice}
 use Rattle.table.specs.Accepting.{Accepted}
 use Rattle.table.specs.Places.{Use, places}
 use Rattle.table.specs.Tables.{Table, size}
-use Rattle.table.specs.Values.{val}
 use Rattle.settling.specs.Settled.{settled, verdict}
 use Rattle.settling.specs.Waiting.{released}
 use Rattle.settling.proofs.Bounding.{bounded}

@@ -13,7 +13,7 @@ use Rattle.calls.specs.declared.call.Call.{Call}
 use Rattle.calls.specs.declared.call.Call.TheVariants.{Tick}
 use Rattle.calls.specs.declared.call.Answer.TheVariants.{Ticked}
 use Rattle.calls.specs.States.{Box, State, state_of}
-use Rattle.calls.specs.Steps.{Ticks, Step}
+use Rattle.calls.specs.Steps.{Step}
 
 module _ {V O : Type 0} (s : Scale V) (ask : ℕ → ℕ → Result V Fault) (b : Box V O) (x x' : Monitor V) (o o' : O) where
   abbrev before : State V O

@@ -13,7 +13,6 @@ use Rattle.settling.specs.Settled.{settled}
 use Rattle.settling.specs.Telling.{told_of, InTime}
 use Rattle.settling.specs.Totals.{RuleTotal, totals}
 use Rattle.settling.specs.Waiting.{released, waiting}
-use Rattle.engine.specs.declared.keep.Keep.{Keep}
 use Rattle.engine.specs.Kept.{values_in}
 use Rattle.engine.specs.State.{keep_of}
 use Rattle.engine.specs.Ticking.{Asked}

@@ -1,5 +1,5 @@
 -- What one call answers and changes. Assumes nothing.
-use Rattle.std.specs.Prelude.{◌≡◌, ℕ, ◌+◌, List, [], ◌∷◌, length, IfOk, Result, MatchResult, nat_lt}
+use Rattle.std.specs.Prelude.{◌≡◌, ℕ, ◌+◌, [], ◌∷◌, length, IfOk, Result, MatchResult, nat_lt}
 use Rattle.std.specs.Result.{result_err}
 use Rattle.outbox.specs.declared.fault.TakeFault.{TakeFault}
 use Rattle.outbox.specs.Refusals.{take_refusal}

@@ -1,8 +1,7 @@
 -- All nodes, one after the other, taken on by a tick. Assumes nothing.
-use Rattle.std.proofs.Common.{◌≡◌, ℕ, suc, ◌+◌, ◌<◌, ◌≤◌, true, false, cond, ◌≢◌, ◌⊎◌, List, length, get_or, set, Ok, Err, Result, unwrap_or, sym, refl, ap, ◌∙◌, subst, ap₂, inl, inr, ⊎_elim, arith}
+use Rattle.std.proofs.Common.{◌≡◌, ℕ, suc, ◌+◌, ◌<◌, ◌≤◌, true, false, ◌≢◌, List, length, get_or, set, Result, unwrap_or, sym, refl, ap, ◌∙◌, subst, inl, inr, ⊎_elim, arith}
 use Rattle.std.proofs.lemmas.List.{get_or-set_same, get_or-set_other}
-use Rattle.std.proofs.lemmas.Bool.{cases_Bool, cases_eq, cases_order, cond-true, cond-false, true≢false}
-use Rattle.std.specs.List.{between}
+use Rattle.std.proofs.lemmas.Bool.{cases_Bool, cases_eq, cases_order, cond-true, cond-false}
 use Rattle.std.specs.Result.{result_ok}
 use Rattle.queue.specs.Contents.{contents}
 use Rattle.queue.specs.Regions.{Stands, Apart}
@@ -11,15 +10,14 @@ use Rattle.scale.specs.Order.{Scale, Lattice}
 use Rattle.source.specs.declared.fault.Fault.{Fault}
 use Rattle.table.specs.declared.node.Node.{Node}
 use Rattle.table.specs.Accepting.{Accepted}
-use Rattle.table.specs.Kinds.{sampled, at_once}
+use Rattle.table.specs.Kinds.{sampled}
 use Rattle.table.specs.Tables.{Table, size, blank, node}
 use Rattle.settling.proofs.Nodes.{operands_before}
 use Rattle.settling.proofs.Sorts.{Inner, once_or_later}
 use Rattle.engine.specs.declared.keep.Keep.{Keep}
-use Rattle.engine.specs.Kept.{values_in}
 use Rattle.engine.specs.Settling.{Gained, Settles}
 use Rattle.engine.specs.State.{At, nowhere, keep_of, AllAt}
-use Rattle.engine.specs.Ticking.{sample_in, sample_of, operand_of, Sound, Asked, SameRegions, OthersKept, TakenOn}
+use Rattle.engine.specs.Ticking.{sample_of, operand_of, Sound, Asked, SameRegions, OthersKept, TakenOn}
 use Rattle.engine.proofs.Nodestep.{node_step}
 
 -- of the nodes those below k are taken on

@@ -1,5 +1,5 @@
 -- With no tick accepted a monitor stands for all samples. Assumes nothing.
-use Rattle.std.proofs.Common.{◌≡◌, ℕ, suc, ◌<◌, List, [], ◌++◌, map, take, drop, sym, ap, ◌∙◌, arith}
+use Rattle.std.proofs.Common.{◌≡◌, ℕ, ◌<◌, List, [], ◌++◌, map, take, drop, sym, ap, ◌∙◌, arith}
 use Rattle.std.specs.List.{range_with_len}
 use Rattle.queue.specs.declared.Stand.{Stand}
 use Rattle.queue.specs.Contents.{contents, newest}
@@ -14,7 +14,6 @@ use Rattle.settling.specs.Settled.{settled, verdict}
 use Rattle.settling.proofs.Bounding.{bounded}
 use Rattle.engine.specs.declared.state.Core.{Core}
 use Rattle.engine.specs.Represents.{Fresh, Represents, monitored}
-use Rattle.engine.specs.State.{keep_of}
 
 -- a queue of no elements holds none
 holds_none : {X : Type 0} (slots : List X) (at : Stand) → at.len ≡ 0 → contents slots at ≡ []

@@ -1,5 +1,5 @@
 -- The queues of a table's nodes stand in front of a longer list. Assumes nothing.
-use Rattle.std.proofs.Common.{◌≡◌, ℕ, ◌<◌, ◌≤◌, List, ◌++◌, length, take, drop, ◌∙◌, arith}
+use Rattle.std.proofs.Common.{◌≡◌, ℕ, ◌<◌, List, ◌++◌, length, take, drop, arith}
 use Rattle.std.proofs.lemmas.List.{get_or-take, get_or_append_left}
 use Rattle.engine.specs.declared.keep.Keep.{Keep}
 use Rattle.engine.specs.State.{nowhere, keep_of}

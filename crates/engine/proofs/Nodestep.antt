@@ -1,5 +1,5 @@
 -- One node taken on by a tick is the next state of the theory. Assumes nothing.
-use Rattle.std.proofs.Common.{◌≡◌, ℕ, suc, ◌+◌, ◌-◌, ◌<◌, ◌≤◌, min, true, false, ◌⊎◌, List, ◌++◌, map, length, get_or, sym, refl, ap, ◌∙◌, subst, ap₂, ⊎_elim, arith}
+use Rattle.std.proofs.Common.{◌≡◌, ℕ, suc, ◌+◌, ◌-◌, ◌<◌, ◌≤◌, min, true, List, ◌++◌, map, length, get_or, sym, ap, ◌∙◌, subst, ap₂, ⊎_elim, arith}
 use Rattle.std.proofs.lemmas.List.FromFn.{length-map-range_with_len, get_or-map-range_with_len}
 use Rattle.std.specs.List.{range_with_len}
 use Rattle.queue.specs.Contents.{newest}
@@ -21,7 +21,7 @@ use Rattle.settling.proofs.Queues.{Queued, later_from_queues, past_from_queues}
 use Rattle.settling.proofs.Sorts.{Inner, Later, LooksBack, sorts}
 use Rattle.settling.proofs.Steps.{next_count}
 use Rattle.engine.specs.declared.keep.Keep.{Keep}
-use Rattle.engine.specs.Kept.{values_in, value_in, reading}
+use Rattle.engine.specs.Kept.{value_in, reading}
 use Rattle.engine.specs.Working.{worked}
 use Rattle.engine.specs.Settling.{Settles}
 use Rattle.engine.specs.State.{At}

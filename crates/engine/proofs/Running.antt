@@ -1,5 +1,5 @@
 -- A node that is taken on position by position. Assumes nothing.
-use Rattle.std.proofs.Common.{◌≡◌, ℕ, suc, ◌+◌, ◌-◌, ◌<◌, ◌≤◌, true, false, ◌⊎◌, List, [], ◌∷◌, ◌++◌, map, length, get_or, take, drop, sym, refl, ap, ◌∙◌, subst, ap₂, ⊎_elim, arith}
+use Rattle.std.proofs.Common.{◌≡◌, ℕ, ◌+◌, ◌-◌, ◌<◌, ◌≤◌, List, [], ◌∷◌, ◌++◌, map, length, get_or, take, drop, sym, refl, ap, ◌∙◌, subst, ap₂, ⊎_elim, arith}
 use Rattle.std.proofs.lemmas.List.FromFn.{map-range_with_len_more}
 use Rattle.std.proofs.lemmas.List.{append-nil, append_assoc, length_push}
 use Rattle.std.proofs.lemmas.Bool.{cases_eq}
@@ -8,14 +8,14 @@ use Rattle.queue.specs.Contents.{contents, newest}
 use Rattle.queue.specs.Regions.{Stands, Apart}
 use Rattle.queue.proofs.Newest.{newest_all, newest_append}
 use Rattle.queue.proofs.Regions.{between_apart, length_held}
-use Rattle.scale.specs.Order.{Scale, Lattice, same}
+use Rattle.scale.specs.Order.{Scale}
 use Rattle.table.specs.declared.node.Node.{Node}
 use Rattle.table.specs.Values.{value_at}
 use Rattle.settling.specs.Settled.{seen}
 use Rattle.engine.specs.declared.keep.Keep.{Keep}
 use Rattle.engine.specs.Kept.{values_in, reading}
 use Rattle.engine.specs.Working.{worked}
-use Rattle.engine.specs.Settling.{Gained, KeptOne, Settles}
+use Rattle.engine.specs.Settling.{Gained, KeptOne}
 
 -- taken on to q', all of it agreed on
 pub record Ran {V : Type 0} (s : Scale V) (sample : V) (memory now : List V) (x : Node) (q q' l r : Keep) : Type 0 where

@@ -35,9 +35,9 @@ module _ {V : Type 0} (nodes : List Node) (n : ℕ) (memory then now : List V) (
   pub around_kept : Sound nodes begun (length memory) n → SameRegions begun part → OthersKept begun (length nodes) memory then → AllButEndsKept ended (length nodes) then now → AroundNodesKept qs (length nodes) memory now
   around_kept sound regions queues ends a b free =
       ends a b (λ k h.
-          let same : (keep_of ended k).to ≡ (keep_of qs k).to = ap (λ u. u.to) (stays k h ∙ became k h) ∙ (regions k).1 ∙ ap (λ u. u.to) (was k h) in
-          let ordered : (keep_of qs k).from ≤ (keep_of qs k).to = subst (λ (u : Keep). u.from ≤ u.to) (was k h) (sound.stands k h).ordered in
-          ⊎_elim (λ e. inl (omega arith)) (λ e. inr (omega arith)) (free k h))
+      let same : (keep_of ended k).to ≡ (keep_of qs k).to = ap (λ u. u.to) (stays k h ∙ became k h) ∙ (regions k).1 ∙ ap (λ u. u.to) (was k h) in
+      let ordered : (keep_of qs k).from ≤ (keep_of qs k).to = subst (λ (u : Keep). u.from ≤ u.to) (was k h) (sound.stands k h).ordered in
+      ⊎_elim (λ e. inl (omega arith)) (λ e. inr (omega arith)) (free k h))
       ∙ queues a b (λ k h. subst (λ (u : Keep). Apart u.from u.to a b) (sym (was k h)) (⊎_elim (λ e. inl e) (λ e. inr (omega arith)) (free k h)))
 
   -- the queues are taken on and stay so, and the ends are theirs

@@ -1,5 +1,5 @@
 -- Two callers: one that names the calls of a list, and one that takes all there is after each tick. Assumes nothing.
-use Rattle.std.specs.Prelude.{ℕ, ◌+◌, cond, length, Some, None, Ok, Err, Option, nat_lt, slice_index_or}
+use Rattle.std.specs.Prelude.{◌+◌, cond, length, Some, None, Ok, Err, Option, nat_lt, slice_index_or}
 use Rattle.calls.specs.declared.call.Call.{Call}
 use Rattle.calls.specs.declared.call.Call.TheVariants.{Tick, Take}
 use Rattle.calls.specs.declared.call.Answer.{Answer}

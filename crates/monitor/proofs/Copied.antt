@@ -3,9 +3,8 @@ use Rattle.std.proofs.Common.{◌≡◌, ℕ, ◌+◌, ◌-◌, ◌<◌, ◌≤�
 use Rattle.std.proofs.lemmas.List.{length-take, length-take-le, get_or-take}
 use Rattle.queue.specs.Regions.{Stands}
 use Rattle.table.specs.Places.{need}
-use Rattle.table.specs.Tables.{Table, size, rule_node}
+use Rattle.table.specs.Tables.{size, rule_node}
 use Rattle.table_check.proofs.Lawful.{plan_accepted}
-use Rattle.engine.specs.declared.keep.Keep.{Keep}
 use Rattle.engine.specs.declared.state.Core.{Core}
 use Rattle.engine.specs.Represents.{monitored}
 use Rattle.engine.specs.State.{keep_of}

@@ -1,14 +1,11 @@
 -- What a monitor counts at close is what the definitions owe. Assumes nothing.
-use Rattle.std.proofs.Common.{◌≡◌, ℕ, zero, suc, ◌+◌, ◌<◌, List, [], ◌∷◌, ◌++◌, map, length, get_or, take, set, sym, refl, ap, ◌∙◌, ap₂, arith}
+use Rattle.std.proofs.Common.{◌≡◌, ℕ, suc, ◌+◌, ◌<◌, List, [], ◌∷◌, ◌++◌, map, length, get_or, take, set, sym, refl, ap, ◌∙◌, ap₂, arith}
 use Rattle.std.proofs.lemmas.List.{take_more, take_more_set, map-append}
 use Rattle.scale.specs.Order.{Scale}
-use Rattle.settling.specs.Settled.{settled}
 use Rattle.settling.specs.Totals.{RuleTotal, rule_total, totals}
-use Rattle.table.specs.Tables.{Table}
 use Rattle.table_check.proofs.Lawful.{plan_accepted}
 use Rattle.engine.specs.declared.state.Core.{Core}
 use Rattle.engine.specs.Represents.{Represents, monitored}
-use Rattle.engine.specs.State.{keep_of}
 use Rattle.monitor.specs.declared.totals.RuleTotal.{RuleTotal as RuleCount}
 use Rattle.monitor.specs.Calls.{as_total, totals_of}
 

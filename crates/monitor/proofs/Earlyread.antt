@@ -1,5 +1,5 @@
 -- What an early reading answers is the early ends. Assumes nothing.
-use Rattle.std.proofs.Common.{◌≡◌, ℕ, suc, ◌<◌, leb, List, length, IfOk, Ok, Err, Result, refl, ◌∙◌}
+use Rattle.std.proofs.Common.{◌≡◌, ℕ, ◌<◌, leb, List, length, IfOk, Ok, Err, Result, refl, ◌∙◌}
 use Rattle.std.proofs.lemmas.Bool.{leb-false}
 use Rattle.std.specs.Result.{result_err}
 use Rattle.table_check.proofs.Lawful.{plan_accepted}

@@ -1,12 +1,11 @@
 -- One accepted tick: what it took to be accepted, and what it issues. Assumes nothing.
-use Rattle.std.proofs.Common.{◌≡◌, ℕ, suc, ◌-◌, ◌<◌, ◌≤◌, Bool, true, false, cond, ltb, leb, List, length, get_or, Some, None, Ok, Err, Option, Result, sym, refl, ap, ◌∙◌, subst, arith, MatchResult}
-use Rattle.std.proofs.lemmas.Bool.{ltb-false, leb-false}
+use Rattle.std.proofs.Common.{◌≡◌, ℕ, suc, ◌-◌, ◌<◌, ◌≤◌, Bool, true, false, cond, ltb, leb, List, length, get_or, Some, None, Option, Result, refl, ap, ◌∙◌, subst, arith}
+use Rattle.std.proofs.lemmas.Bool.{ltb-false}
 use Rattle.source.specs.declared.fault.Fault.{Fault}
 use Rattle.source.specs.Frames.{first_fault}
 use Rattle.scale.specs.Order.{Scale}
 use Rattle.record.specs.declared.Record.{Record}
 use Rattle.settling.specs.Records.{tick_records}
-use Rattle.settling.specs.Settled.{settled}
 use Rattle.table.specs.Places.{need, burst}
 use Rattle.table_check.specs.Plans.{table_of}
 use Rattle.table.specs.Tables.{Table, rule_node}

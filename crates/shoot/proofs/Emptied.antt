@@ -1,11 +1,10 @@
 -- Ticks with all records taken after each: what such a run comes to. Assumes nothing.
-use Rattle.std.proofs.Common.{◌≡◌, ℕ, suc, ◌+◌, ◌*◌, ◌<◌, ◌≤◌, Bool, true, false, cond, ltb, List, [], ◌∷◌, ◌++◌, length, Some, None, Ok, Err, Option, Result, sym, refl, ap, ◌∙◌, subst, inl, inr, arith}
+use Rattle.std.proofs.Common.{◌≡◌, ℕ, ◌+◌, ◌*◌, ◌<◌, ◌≤◌, ltb, List, [], ◌∷◌, ◌++◌, length, Some, None, Ok, Err, Option, Result, sym, refl, ap, ◌∙◌, subst, inl, inr, arith}
 use Rattle.std.proofs.lemmas.List.{length_push, length-append}
 use Rattle.std.proofs.lemmas.Bool.{cases_lt}
-use Rattle.std.specs.Result.{result_err}
 use Rattle.table_check.specs.Plans.{table_of}
 use Rattle.record.specs.declared.Record.{Record}
-use Rattle.scale.specs.Order.{Scale, Lattice}
+use Rattle.scale.specs.Order.{Scale}
 use Rattle.source.specs.declared.fault.Fault.{Fault}
 use Rattle.table.specs.Places.{burst}
 use Rattle.table.specs.Tables.{Table}
@@ -16,7 +15,7 @@ use Rattle.engine.specs.Represents.{Represents}
 use Rattle.engine.specs.Ticking.{Asked}
 use Rattle.monitor.specs.Running.{Ran}
 use Rattle.calls.specs.declared.call.Call.{Call}
-use Rattle.calls.specs.declared.call.Call.TheVariants.{Tick, Read, Take}
+use Rattle.calls.specs.declared.call.Call.TheVariants.{Tick, Take}
 use Rattle.calls.specs.declared.call.Answer.{Answer}
 use Rattle.calls.specs.declared.call.Answer.TheVariants.{Ticked, Ends, Taken}
 use Rattle.calls.specs.Promises.{GoesOn}

@@ -1,17 +1,15 @@
 -- What rows answer to the samples of a table. Assumes nothing.
-use Rattle.std.proofs.Common.{◌≡◌, ℕ, zero, suc, ◌+◌, ◌*◌, ◌<◌, ◌≤◌, Bool, true, false, cond, leb, ◌⊎◌, List, [], ◌∷◌, length, get_or, Some, None, Ok, Err, Option, Result, sym, refl, ap, ◌∙◌, subst, inl, inr, ⊎_elim, arith}
-use Rattle.std.proofs.lemmas.Bool.{cases_Bool, cases_lt, cond-true, cond-false, le-leb, lt-leb}
+use Rattle.std.proofs.Common.{◌≡◌, ℕ, zero, suc, ◌<◌, true, List, [], ◌∷◌, length, get_or, Some, None, Ok, Err, Result, sym, refl, ap, ◌∙◌, subst, ⊎_elim, arith}
+use Rattle.std.proofs.lemmas.Bool.{cases_Bool, cond-true, cond-false}
 use Rattle.std.specs.List.{AllByRecursion}
 use Rattle.source.specs.declared.fault.Fault.{Fault}
-use Rattle.source.specs.declared.fault.Refusal.TheVariants.{PastLength, PastWidth}
-use Rattle.source.specs.Faults.{refused_with}
-use Rattle.source.specs.Frames.{Frames, outside, unless, answer, fault_or, first_fault}
+use Rattle.source.specs.Frames.{fault_or, first_fault}
 use Rattle.table.specs.declared.kind.Sort.{Sort}
 use Rattle.table.specs.declared.kind.Sort.TheVariants.{Leaf, Point, Ahead, Back}
 use Rattle.table.specs.declared.node.Node.{Node}
 use Rattle.table.specs.Accepting.{LeftPlaced, Accepted}
 use Rattle.table.specs.Kinds.{shape, sampled, leaf}
-use Rattle.table.specs.Tables.{Table, size, blank, node}
+use Rattle.table.specs.Tables.{Table, blank}
 use Rattle.engine.specs.Asking.{samples_of}
 
 -- an answer that is a value

@@ -1,10 +1,9 @@
 -- What rows answer, by the tick and the sample that are asked. Assumes nothing.
-use Rattle.std.proofs.Common.{◌≡◌, ℕ, ◌+◌, ◌*◌, ◌<◌, ◌≤◌, leb, List, get_or, Some, None, Ok, Err, Option, Result, sym, ap, ◌∙◌, ⊎_elim, arith}
+use Rattle.std.proofs.Common.{◌≡◌, ℕ, ◌<◌, ◌≤◌, Ok, Err, sym, ap, ◌∙◌, ⊎_elim, arith}
 use Rattle.std.proofs.lemmas.Bool.{cases_lt, cond-true, cond-false, le-leb, lt-leb}
-use Rattle.source.specs.declared.fault.Fault.{Fault}
 use Rattle.source.specs.declared.fault.Refusal.TheVariants.{PastLength, PastWidth}
 use Rattle.source.specs.Faults.{refused_with}
-use Rattle.source.specs.Frames.{Frames, outside, unless, answer}
+use Rattle.source.specs.Frames.{Frames, unless, answer}
 
 module _ {V : Type 0} (l : ℕ) (f : Frames V) (n c : ℕ) where
   pub past_length : f.long ≤ n → answer l f n c ≡ Err (refused_with PastLength l n c)

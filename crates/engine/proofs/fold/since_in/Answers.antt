@@ -1,4 +1,4 @@
-use Rattle.std.proofs.Common.{◌≡◌, ℕ, ◌+◌, min, sym, ap, ◌∙◌, arith}
+use Rattle.std.proofs.Common.{◌≡◌, ◌+◌, min, sym, ap, ◌∙◌, arith}
 use Rattle.scale.proofs.Bounding.{bounds}
 use Rattle.settling.proofs.Folds.{greatest_none}
 use Rattle.table.specs.Values.{greatest}

@@ -1,4 +1,4 @@
-use Rattle.std.proofs.Common.{◌≡◌, ◌+◌, sym, ap, ◌∙◌, arith}
+use Rattle.std.proofs.Common.{◌≡◌, ◌+◌, ap, ◌∙◌, arith}
 use Rattle.scale.proofs.Bounding.{bounds}
 use Rattle.table.specs.Values.{greatest}
 use Rattle.engine.specs.Kept.{reading}

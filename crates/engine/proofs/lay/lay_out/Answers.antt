@@ -1,4 +1,4 @@
-use Rattle.std.proofs.Common.{◌+◌, length, sym, ap, ◌∙◌, arith, length-set}
+use Rattle.std.proofs.Common.{◌∙◌, arith, length-set}
 use Rattle.engine.proofs.Laying.{start_next, laid_next}
 use Rattle.engine.proofs.lay.lay_out.Goals as goal
 

@@ -1,6 +1,5 @@
-use Rattle.std.proofs.Common.{◌≡◌, true, sym, ap, ◌∙◌, arith}
+use Rattle.std.proofs.Common.{sym, ap, ◌∙◌, arith}
 use Rattle.std.proofs.lemmas.Bool.{true≢false, both_ways}
-use Rattle.scale.specs.Order.{same}
 use Rattle.scale.proofs.Bounding.{bounds}
 use Rattle.settling.proofs.Orders.{same_equal, equal_same}
 use Rattle.engine.specs.Working.{worked}

@@ -1,10 +1,9 @@
-use Rattle.std.proofs.Common.{◌≡◌, ℕ, suc, ◌+◌, ◌≤◌, false, length, get_or, sym, ◌∙◌, subst, ⊎_elim, arith}
+use Rattle.std.proofs.Common.{◌≡◌, suc, ◌≤◌, false, length, get_or, sym, subst, ⊎_elim}
 use Rattle.std.proofs.lemmas.Bool.{both_ways}
 use Rattle.queue.specs.Regions.{Stands, Apart}
 use Rattle.scale.proofs.Bounding.{bounds}
 use Rattle.source.specs.Frames.{answer}
 use Rattle.table.specs.declared.kind.Kind.{Kind}
-use Rattle.table.specs.declared.node.Node.{Node}
 use Rattle.table.specs.Kinds.{at_once}
 use Rattle.table.specs.Tables.{blank}
 use Rattle.settling.proofs.Sorts.{Inner, once_or_later}

@@ -1,4 +1,3 @@
-use Rattle.std.proofs.Common.{length}
 use Rattle.source.specs.Frames.{answer}
 use Rattle.engine.proofs.Wholetick.{around_kept, whole_tick}
 use Rattle.engine.proofs.tick.tick_all.Goals as goal

@@ -1,4 +1,4 @@
-use Rattle.std.proofs.Common.{◌≡◌, ℕ, suc, ◌+◌, length, take, sym, refl, ap, ◌∙◌, subst, arith}
+use Rattle.std.proofs.Common.{◌≡◌, suc, ◌+◌, length, take, sym, refl, ap, subst, arith}
 use Rattle.source.specs.Frames.{answer}
 use Rattle.table.specs.Places.{need as need_of}
 use Rattle.engine.specs.Represents.{monitored}
