@@ -12,7 +12,7 @@ use Rattle.calls.specs.States.{Box, State}
 use Rattle.calls.specs.Runs.{Log, Run}
 use Rattle.calls.specs.Promises.{AlwaysKept}
 
--- the state after set_up: a monitor of this plan and this memory with no tick accepted, and the outbox as it was lent
+-- the state after set-up: a monitor of this plan and this memory with no tick accepted, and the outbox as it was lent
 pub record Begun {V O : Type 0} (s : Scale V) (p : Plan) (memory : List V) (o : O) (x : State V O) : Type 0 where
   pub plan : x.core.plan ≡ p
   pub ticks : x.core.ticks ≡ 0
@@ -34,7 +34,7 @@ module _ {V C : Type 0} (names : C → Option (Answer V) → Option Call) (after
     pub ended : ((names caller told ≡ None) × (to ≡ after caller told)) ⊎ ((length made ≡ room) × (to ≡ caller))
 
 -- The life of one monitor, from what it was lent to its last state: the log has grown by the calls that were made, with
--- their answers; they lead from the state after set_up to the last one, each call doing exactly what it may do; the caller
+-- their answers; they lead from the state after set-up to the last one, each call doing exactly what it may do; the caller
 -- named them; and at each of them every promise is kept, whatever samples follow.
 pub record Life {V O C : Type 0} (s : Scale V) (ask : ℕ → ℕ → Result V Fault) (b : Box V O) (names : C → Option (Answer V) → Option Call) (after : C → Option (Answer V) → C) (p : Plan) (memory : List V) (o : O) (room : ℕ) (from to : C) (before log : Log V) (last : State V O) : Type 0 where
   pub made : Log V

@@ -33,7 +33,7 @@ ticks_in x = x.core.ticks
 abbrev pub StandsFor : {V : Type 0} → Scale V → (ℕ → ℕ → V) → ℕ → Monitor V → Type 0
 StandsFor s σ m x = Represents s σ m x.core (memory_in x)
 
--- SetUp: the monitor holds this plan and this memory, and with no tick accepted it stands for all samples.
+-- Set-up: the monitor holds this plan and this memory, and with no tick accepted it stands for all samples.
 pub record SetUp {V : Type 0} (s : Scale V) (p : Plan) (memory : List V) (x : Monitor V) : Type 0 where
   pub plan : x.core.plan ≡ p
   pub lent : memory_in x ≡ memory

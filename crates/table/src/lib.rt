@@ -3,7 +3,7 @@
 //! of a kind, the faults, and the reading of a single node; and the definitions: what a node's value is, how long it may
 //! take to be known, what a table costs, when it is accepted and what the check finds in it. That the definition of what
 //! the check finds means what it says stands in `promises`. Read `specs/Values.antt`, `specs/Lags.antt` and
-//! `specs/Places.antt` first, then `specs/Refusals.antt`. The crate `check` has the check itself.
+//! `specs/Places.antt` first, then `specs/Refusals.antt`. The crate `table_check` has the check itself.
 #![tactic(auto)]
 
 pub mod fault;

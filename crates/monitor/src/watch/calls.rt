@@ -1,4 +1,4 @@
-//! SetUp, tick and close.
+//! Set-up, tick and close.
 ghost use Rattle.std.specs.Prelude.{◌≡◌, ℕ, length, IfOk, MatchResult, nat_lt};
 ghost use Rattle.std.specs.Result.{result_err};
 ghost use Rattle.settling.specs.Totals.{totals};
