@@ -47,6 +47,6 @@ module _ {V O C : Type 0} (s : Scale V) (ask : ℕ → ℕ → Result V Fault) (
     kept = always_kept s o ask b begun beg.ticks beg.every g.made x g.run;
   }
 
--- the state after set_up
+-- the state after set-up
 pub begun_by : {V O : Type 0} (s : Scale V) (p : Plan) (memory : List V) (x : Monitor V) (o : O) → SetUp s p memory x → Begun s p memory o (state_of x o)
 begun_by s p memory x o e = record { plan = e.plan; ticks = (e.every (λ n c. s.lowest)).ticks; every = e.every; lent = e.lent; outbox = refl }
