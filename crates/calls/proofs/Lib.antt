@@ -1,4 +1,3 @@
-pub mod Stepping
 pub mod Truth
 pub mod Queued
 pub mod Following

@@ -1,19 +1,19 @@
 -- Every record that is expected tells only what the formulas give. Assumes nothing.
 use Rattle.std.proofs.Common.{◌≡◌, ℕ, suc, ◌<◌, length, sym, ap, ◌∙◌, subst, arith}
 use Rattle.std.specs.List.{AllByRecursion}
-use Rattle.std.proofs.ByRecursion.{All-weaker}
 use Rattle.scale.specs.Order.{Scale, Lattice, AtMost}
 use Rattle.record.specs.declared.Record.{Record}
 use Rattle.table.specs.Accepting.{Accepted}
 use Rattle.table.specs.Tables.{Table, rule_node}
 use Rattle.table.specs.Values.{val}
 use Rattle.settling.specs.Early.{ends}
-use Rattle.settling.specs.Records.{newly_settled, rule_records, tick_records, expected}
+use Rattle.settling.specs.Records.{tick_records, expected}
 use Rattle.settling.specs.Settled.{settled, verdict}
 use Rattle.settling.proofs.Early.{enclosing}
-use Rattle.settling.proofs.Lasting.{lasting, agree_itself}
+use Rattle.settling.proofs.Lasting.{agree_itself}
 use Rattle.settling.proofs.Lists.{all_joined}
-use Rattle.settling.proofs.Positions.{Inside, tell_runs, all_tell}
+use Rattle.settling.proofs.Positions.{Inside}
+use Rattle.settling.proofs.Timing.{all_of_tick}
 use Rattle.settling.proofs.Soundness.{sound}
 use Rattle.calls.specs.Promises.{TrueAt, TrueRecord}
 
@@ -32,15 +32,7 @@ module _ {V : Type 0} {s : Scale V} (o : Lattice s) {t : Table} (a : Accepted t)
       (subst (λ v. AtMost s v (ends s σ p t k).upper) (sym is) enclosed.1)
 
   tick_true : (n : ℕ) → AllByRecursion (TrueRecord s σ t) (tick_records s σ n t)
-  unfolding tick_records
-  tick_true n = all_joined (TrueRecord s σ t) (rule_records s σ n t) 0 (length t.rules) (λ r i j.
-      let h : r < length t.rules = omega arith in
-      let k = rule_node t r in
-      let c = settled s σ n t k in
-      let b = settled s σ (suc n) t k in
-      let v = verdict s σ (suc n) t k in
-      let up = (lasting s o t a σ n k (a.rules_fit r h)).0 in
-      All-weaker _ _ (run_true n r h) (rule_records s σ n t r) (all_tell o r n v c b _ (tell_runs o r n v c (newly_settled s σ n t r) b (omega arith))))
+  tick_true n = all_of_tick o a σ n (TrueRecord s σ t) (run_true n)
 
   pub all_true : (m : ℕ) → AllByRecursion (TrueRecord s σ t) (expected s σ m t)
   unfolding expected

@@ -27,9 +27,6 @@ module _ {S V : Type 0} (waiting : S → List (Record V)) (free : S → ℕ) (s 
   abbrev pub OfferedBelow : S → ℕ → Type 0
   OfferedBelow now r = Offered waiting free before now (flat_map its_records (range_with_len 0 r))
 
-  pub below_none : OfferedBelow before 0
-  below_none = offered_none waiting free before
-
   pub below_more : (now after : S) (r : ℕ) (q : Keep) → q ≡ keep_of qs (get_or rules r 0) → OfferedBelow now r → Offered waiting free now after (queue_runs s memory r n (get_or olds r 0) q) → OfferedBelow after (r + 1)
   below_more now after r q is h put =
       let next : suc r ≡ r + 1 = omega arith in

@@ -1,6 +1,6 @@
 -- The rules of a plan, as a copy has them. Assumes nothing.
 use Rattle.std.proofs.Common.{◌≡◌, ℕ, ◌+◌, ◌-◌, ◌<◌, ◌≤◌, List, length, get_or, take, sym, ap, ◌∙◌, subst, arith}
-use Rattle.std.proofs.lemmas.List.{length-take, length-take-le, get_or-take}
+use Rattle.std.proofs.lemmas.List.{length-take-le, get_or-take}
 use Rattle.queue.specs.Regions.{Stands}
 use Rattle.table.specs.Places.{need}
 use Rattle.table.specs.Tables.{size, rule_node}
@@ -12,9 +12,6 @@ use Rattle.engine.proofs.Cores.{queue_stands}
 use Rattle.monitor.specs.Issuing.{RulesStand}
 
 module _ (rules : List ℕ) (count : ℕ) (ks : List ℕ) (is : take count rules ≡ ks) where
-  pub copied_inside : (r : ℕ) → r < length ks → r < count
-  copied_inside r h = omega (arith, ap length is, length-take count rules)
-
   pub copied_rule : (r : ℕ) → r < count → get_or rules r 0 ≡ get_or ks r 0
   copied_rule r h = sym (get_or-take count rules r 0 h) ∙ ap (λ l. get_or l r 0) is
 

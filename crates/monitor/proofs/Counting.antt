@@ -1,21 +1,11 @@
 -- What a monitor counts at close is what the definitions owe. Assumes nothing.
-use Rattle.std.proofs.Common.{◌≡◌, ℕ, suc, ◌+◌, ◌<◌, List, [], ◌∷◌, ◌++◌, map, length, get_or, take, set, sym, refl, ap, ◌∙◌, ap₂, arith}
-use Rattle.std.proofs.lemmas.List.{take_more, take_more_set, map-append}
+use Rattle.std.proofs.Common.{◌≡◌, ℕ, suc, ◌<◌, List, [], ◌∷◌, map, length, get_or, refl, ap₂, arith}
 use Rattle.scale.specs.Order.{Scale}
 use Rattle.settling.specs.Totals.{RuleTotal, rule_total, totals}
 use Rattle.table_check.proofs.Lawful.{plan_accepted}
 use Rattle.engine.specs.declared.state.Core.{Core}
 use Rattle.engine.specs.Represents.{Represents, monitored}
-use Rattle.monitor.specs.declared.totals.RuleTotal.{RuleTotal as RuleCount}
-use Rattle.monitor.specs.Calls.{as_total, totals_of}
-
--- one rule more is counted
-pub counted_more : (f : ℕ → RuleTotal) (done : List RuleCount) (nodes : List ℕ) (r : ℕ) (x : RuleCount) → r < length done → r < length nodes → as_total x ≡ f (get_or nodes r 0) → map as_total (take r done) ≡ map f (take r nodes) → map as_total (take (r + 1) (set done r x)) ≡ map f (take (r + 1) nodes)
-counted_more f done nodes r x h i is so_far =
-    ap (map as_total) (take_more_set done r x h)
-    ∙ map-append as_total (take r done) (x ∷ [])
-    ∙ ap₂ (λ l v. l ++ v ∷ []) so_far is
-    ∙ sym (ap (map f) (take_more nodes r 0 i) ∙ map-append f (take r nodes) (get_or nodes r 0 ∷ []))
+use Rattle.monitor.specs.Calls.{totals_of}
 
 same_map : (f g : ℕ → RuleTotal) (ks : List ℕ) → ((r : ℕ) → r < length ks → f (get_or ks r 0) ≡ g (get_or ks r 0)) → map f ks ≡ map g ks
 same_map f g [] h = refl

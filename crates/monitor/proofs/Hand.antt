@@ -91,16 +91,3 @@ module _ {S V : Type 0} (waiting : S → List (Record V)) (free : S → ℕ) (s 
       ahead = omega arith;
       within = omega (arith, r.inside);
     }
-
-  -- the last run is put too
-  pub hand_end : (now after : S) (first p : ℕ) (value : V) → AtHand now first p value → q.count ≤ p → Offered waiting free now after (run rule n first (q.count - 1) value ∷ []) → Offered waiting free before after (queue_runs s memory rule n old q)
-  hand_end now after first p value h end put =
-      let all : p ≡ q.count = omega (arith, h.within) in
-      let so_far = ap (λ i. runs s rule n v old (i - old)) (sym all) ∙ h.so_far ∙ ap (λ i. h.done ++ run rule n first (i - 1) value ∷ []) all in
-      subst (Offered waiting free before after) (sym so_far) (offered_more waiting free before now after h.done (run rule n first (q.count - 1) value ∷ []) h.offered put)
-
-  -- nothing is new, and nothing is put
-  pub hand_none : q.count ≤ old → Offered waiting free before before (queue_runs s memory rule n old q)
-  hand_none past =
-      let none : 0 ≡ q.count - old = omega arith in
-      subst (λ c. Offered waiting free before before (runs s rule n v old c)) none (offered_none waiting free before)

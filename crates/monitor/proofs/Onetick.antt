@@ -1,6 +1,5 @@
 -- One accepted tick: what it took to be accepted, and what it issues. Assumes nothing.
 use Rattle.std.proofs.Common.{◌≡◌, ℕ, suc, ◌-◌, ◌<◌, ◌≤◌, Bool, true, false, cond, ltb, leb, List, length, get_or, Some, None, Option, Result, refl, ap, ◌∙◌, subst, arith}
-use Rattle.std.proofs.lemmas.Bool.{ltb-false}
 use Rattle.source.specs.declared.fault.Fault.{Fault}
 use Rattle.source.specs.Frames.{first_fault}
 use Rattle.scale.specs.Order.{Scale}
@@ -25,14 +24,7 @@ pub not_refused : {X : Type 0} (b : Bool) (x : X) (rest : Option X) → None ≡
 not_refused true x rest e = let z : ◌≡◌ {A = ℕ} 0 1 = cc in absurd (omega arith)
 not_refused false x rest e = (refl, e)
 
-none_of_source : (f : Option Fault) → None ≡ of_source f → None ≡ f
-none_of_source None e = refl
-none_of_source (Some f) e = let z : ◌≡◌ {A = ℕ} 0 1 = cc in absurd (omega arith)
-
 module _ {V : Type 0} (t : Table) (ticks space : ℕ) (cramped : Bool) (answers : ℕ → Result V Fault) (accepted : None ≡ tick_fault t ticks space cramped answers) where
-  pub enough_memory : need t ≤ space
-  enough_memory = ltb-false space (need t) (not_refused _ _ _ accepted).0
-
   abbrev from_source : Option TickFault
   from_source = of_source (first_fault answers (samples_of t.nodes))
 
@@ -43,9 +35,6 @@ module _ {V : Type 0} (t : Table) (ticks space : ℕ) (cramped : Bool) (answers 
 
   pub enough_room : cramped ≡ false
   enough_room = past_ticks.0
-
-  pub all_answered_by : None ≡ first_fault answers (samples_of t.nodes)
-  all_answered_by = none_of_source _ past_ticks.1
 
 -- what the tick issues, from what stood before it
 pub all_issued_by : {V O : Type 0} (s : Scale V) (answers : ℕ → Result V Fault) (waiting : O → List (Record V)) (free : O → ℕ) (c c' : Core) (memory now : List V) (o o' : O) (olds : List ℕ)

@@ -1,9 +1,7 @@
 -- Records put one after another, as many as there is room for. Assumes nothing.
-use Rattle.std.proofs.Common.{◌≡◌, ℕ, zero, suc, ◌-◌, ◌≤◌, List, [], ◌∷◌, ◌++◌, length, take, Ok, Err, Result, sym, ap, ◌∙◌, ap₂, arith}
+use Rattle.std.proofs.Common.{◌≡◌, ℕ, zero, suc, ◌-◌, ◌≤◌, List, [], ◌∷◌, ◌++◌, length, take, sym, ap, ◌∙◌, ap₂, arith}
 use Rattle.std.proofs.lemmas.List.{append_assoc, append-nil, length-append, take_all}
 use Rattle.record.specs.declared.Record.{Record}
-use Rattle.outbox.specs.declared.fault.PutFault.{PutFault}
-use Rattle.outbox.specs.Meaning.{Puts}
 use Rattle.monitor.specs.Issuing.{Offered, Issued}
 
 take_none : {X : Type 0} (n : ℕ) → take {A = X} n [] ≡ []
@@ -16,17 +14,6 @@ take_parts zero (x ∷ xs) ys = let none : 0 ≡ 0 - length (x ∷ xs) = omega a
 take_parts (suc n) (x ∷ xs) ys = let less : n - length xs ≡ suc n - length (x ∷ xs) = omega arith in ap (λ l. x ∷ l) (take_parts n xs ys) ∙ ap (λ i. x ∷ take n xs ++ take i ys) less
 
 module _ {S V : Type 0} (waiting : S → List (Record V)) (free : S → ℕ) where
-  -- one, by the answer of put
-  pub offered_one : (before after : S) (x : Record V) (r : Result (Unit {0}) PutFault) → Puts waiting free before after x r → Offered waiting free before after (x ∷ [])
-  offered_one before after x (Ok u) put = record {
-    waits = put.appended ∙ ap (λ l. waiting before ++ l) (sym (take_all (free before) (x ∷ []) (omega (arith, put.lowered))));
-    left = omega (arith, put.lowered);
-  }
-  offered_one before after x (Err fault) put = record {
-    waits = ap waiting put.same ∙ sym (ap (λ n. waiting before ++ take n (x ∷ [])) put.full ∙ append-nil (waiting before));
-    left = ap free put.same ∙ omega (arith, put.full);
-  }
-
   -- none
   pub offered_none : (before : S) → Offered waiting free before before []
   offered_none before = record {

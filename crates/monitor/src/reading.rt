@@ -9,12 +9,12 @@ use engine::state::Core;
 use scale::Scale;
 
 /// Why a rule cannot be read early.
-#[derive(Clone, Copy)]
+#[derive(Clone, Copy, PartialEq, Eq, Debug)]
 pub enum ReadFault {
     /// There is no such rule.
-    NoRule,
+    NoRule = 51,
     /// No tick is accepted yet.
-    NoTick,
+    NoTick = 52,
 }
 
 impl ReadFault {
@@ -22,10 +22,7 @@ impl ReadFault {
     pub fn number(self) -> u8
         ensures { result ≡ read_refusal self }
     {
-        match self {
-            ReadFault::NoRule => 51,
-            ReadFault::NoTick => 52,
-        }
+        self as u8
     }
 }
 
@@ -33,10 +30,7 @@ impl ReadFault {
 fn value_at<V: Scale>(memory: &[V], slot: usize) -> V
     ensures { result ≡ slice_index_or memory.now slot V.Scale.scale.lowest }
 {
-    match memory.get(slot) {
-        Some(value) => *value,
-        None => V::lowest(),
-    }
+    memory.get(slot).copied().unwrap_or(V::lowest())
 }
 
 /// The lower and the upper end of a rule's node at the last tick, as they stand behind its queue.
@@ -46,13 +40,10 @@ pub(crate) fn read_ends<V: Scale>(core: &Core, memory: &[V], rule: u8) -> Result
     ensures upper { IfOk result (λ e. e.1 ≡ stored_upper V.Scale.scale core.now memory.now rule) }
 {
     let rules = core.plan().rules();
-    let r = rule as usize;
-    if r >= rules.len() {
-        return Err(ReadFault::NoRule);
-    }
+    let node = rules.get(usize::from(rule)).ok_or(ReadFault::NoRule)?;
     if core.ticks() == 0 {
         return Err(ReadFault::NoTick);
     }
-    let slot = keep_of(core.keeps(), rules[r] as usize).to;
+    let slot = keep_of(core.keeps(), usize::from(*node)).to;
     Ok((value_at(memory, slot), value_at(memory, slot + 1)))
 }

@@ -15,10 +15,10 @@ use scale::Scale;
 pub(crate) fn settled_by(core: &Core) -> [usize; 16]
     ensures { (r : ℕ) → r < length (monitored core.now).rules → slice_index result r ≡ (keep_of core.now.keeps (rule_node (monitored core.now) r)).count }
 {
-    let (rules, count) = core.plan().copy_rules();
+    let rules = core.plan().rules();
     let mut settled = [0; 16];
-    for r in 0..count {
-        settled[r] = core.settled(rules[r] as usize);
+    for (r, node) in rules.iter().enumerate() {
+        settled[r] = core.settled(usize::from(*node));
     }
     settled
 }

@@ -16,6 +16,18 @@ use Rattle.settling.proofs.Lists.{all_joined}
 use Rattle.settling.proofs.Positions.{Inside, tell_runs, all_tell}
 
 module _ {V : Type 0} {s : Scale V} (o : Lattice s) {t : Table} (a : Accepted t) (σ : ℕ → ℕ → V) where
+  -- what holds of each run of positions that a rule's node newly settles at a tick holds of each of the tick's records
+  pub all_of_tick : (n : ℕ) (P : Record V → Type 0) → ((r : ℕ) → r < length t.rules → let k = rule_node t r in (y : Record V) → Inside r n (verdict s σ (suc n) t k) (settled s σ n t k) (settled s σ (suc n) t k) y → P y) → AllByRecursion P (tick_records s σ n t)
+  unfolding tick_records
+  all_of_tick n P each = all_joined P (rule_records s σ n t) 0 (length t.rules) (λ r i j.
+      let h : r < length t.rules = omega arith in
+      let k = rule_node t r in
+      let c = settled s σ n t k in
+      let b = settled s σ (suc n) t k in
+      let v = verdict s σ (suc n) t k in
+      let up = (lasting s o t a σ n k (a.rules_fit r h)).0 in
+      All-weaker _ _ (each r h) (rule_records s σ n t r) (all_tell o r n v c b _ (tell_runs o r n v c (newly_settled s σ n t r) b (omega arith))))
+
   run_in_time : (n r : ℕ) → r < length t.rules → let k = rule_node t r in (y : Record V) → Inside r n (verdict s σ (suc n) t k) (settled s σ n t k) (settled s σ (suc n) t k) y → InTime s σ n t y
   run_in_time n r h y q =
       let k = rule_node t r in
@@ -36,15 +48,7 @@ module _ {V : Type 0} {s : Scale V} (o : Lattice s) {t : Table} (a : Accepted t)
       }
 
   tick_in_time : (n : ℕ) → AllByRecursion (InTime s σ n t) (tick_records s σ n t)
-  unfolding tick_records
-  tick_in_time n = all_joined (InTime s σ n t) (rule_records s σ n t) 0 (length t.rules) (λ r i j.
-      let h : r < length t.rules = omega arith in
-      let k = rule_node t r in
-      let c = settled s σ n t k in
-      let b = settled s σ (suc n) t k in
-      let v = verdict s σ (suc n) t k in
-      let up = (lasting s o t a σ n k (a.rules_fit r h)).0 in
-      All-weaker _ _ (run_in_time n r h) (rule_records s σ n t r) (all_tell o r n v c b _ (tell_runs o r n v c (newly_settled s σ n t r) b (omega arith))))
+  tick_in_time n = all_of_tick n (InTime s σ n t) (run_in_time n)
 
   -- by its own tick
   own_tick : (m n : ℕ) → n < m → (y : Record V) → InTime s σ n t y → (y.first + y.lag < m) × InTime s σ (y.first + y.lag) t y

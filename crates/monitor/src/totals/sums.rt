@@ -10,13 +10,13 @@ pub(crate) fn total_up(core: &Core) -> Totals
     ensures { as_totals result ≡ totals_of core.now }
 {
     let ticks = core.ticks();
-    let (nodes, count) = core.plan().copy_rules();
+    let nodes = core.plan().rules();
     let mut rules = [RuleTotal {
         settled: 0,
         open: 0,
     }; 16];
-    for r in 0..count {
-        let settled = core.settled(nodes[r] as usize);
+    for (r, node) in nodes.iter().enumerate() {
+        let settled = core.settled(usize::from(*node));
         rules[r] = RuleTotal {
             settled,
             open: ticks.saturating_sub(settled),
@@ -25,6 +25,6 @@ pub(crate) fn total_up(core: &Core) -> Totals
     Totals {
         ticks,
         rules,
-        count,
+        count: nodes.len(),
     }
 }

@@ -1,4 +1,4 @@
-use Rattle.std.proofs.Common.{◌≡◌, ◌<◌, length, get_or, ap, ◌∙◌, ap₂, arith}
+use Rattle.std.proofs.Common.{◌≡◌, ◌<◌, length, ap, ◌∙◌, arith}
 use Rattle.table_check.specs.Plans.{table_of}
 use Rattle.table_check.proofs.Lawful.{plan_accepted}
 use Rattle.table.specs.Tables.{rule_node}
@@ -13,7 +13,7 @@ overflow_add-slot g c =
     let rule = c.args.rule in
     let accepted = plan_accepted core.plan in
     let rules : c.rules-rules.result.now ≡ (monitored core).rules = c.rules-rules.ensures ∙ ap (λ p. (table_of p).rules) c.plan.ensures in
-    let there : rule < length (monitored core).rules = omega (arith, ap length rules, c.if-r-rules.false) in
+    let there : rule < length (monitored core).rules = grind (arith, rules, c.from.ensures, c.get.ensures.lookup, c.in_ok-node.is, c.in_ok-node.was, c.in_ok-node.ensures.variant, c.ok_or.ensures.variant, c.branch-node.ensures) in
     let node = rule_node (monitored core) rule in
-    let is : c.keep_of-slot.result ≡ keep_of core.keeps node = c.keep_of-slot.ensures ∙ ap₂ keep_of c.keeps.ensures (ap (λ l. get_or l rule 0) rules) in
+    let is : c.keep_of-slot.result ≡ keep_of core.keeps node = grind (arith, rules, c.from.ensures, c.get.ensures.lookup, c.in_ok-node.is, c.ok_or.ensures, c.branch-node.ensures) in
     omega (arith, ap (λ (q : Keep). q.to) is, core.inside node (accepted.rules_fit rule there), accepted.fits)

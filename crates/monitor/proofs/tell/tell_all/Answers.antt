@@ -1,12 +1,7 @@
 use Rattle.std.proofs.Common.{◌≡◌, ◌≤◌, length, subst, arith}
 use Rattle.scale.proofs.Bounding.{bounds}
-use Rattle.monitor.proofs.Allrules.{OfferedBelow, below_none, below_more, below_all}
+use Rattle.monitor.proofs.Allrules.{OfferedBelow, below_more, below_all}
 use Rattle.monitor.proofs.tell.tell_all.Goals as goal
-
-pub loop-r-init : goal.loop-r-init
-loop-r-init g c =
-    let a = c.args in
-    below_none g.O.Outbox.waiting g.O.Outbox.free g.V.Scale.scale a.memory.now a.keeps.now a.rules a.olds a.n a.outbox.now
 
 pub loop-r-preserved : goal.loop-r-preserved
 loop-r-preserved g c =

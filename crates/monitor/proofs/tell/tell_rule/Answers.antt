@@ -1,11 +1,6 @@
 use Rattle.scale.proofs.Bounding.{bounds}
-use Rattle.monitor.proofs.Hand.{hand_start, hand_longer, hand_new, hand_end, hand_none}
+use Rattle.monitor.proofs.Hand.{hand_start, hand_longer, hand_new}
 use Rattle.monitor.proofs.tell.tell_rule.Goals as goal
-
-pub returns-then-old-keep : goal.returns-then-old-keep
-returns-then-old-keep g c =
-    let a = c.args in
-    hand_none g.O.Outbox.waiting g.O.Outbox.free g.V.Scale.scale a.memory.now a.keep a.rule a.n a.old a.outbox.now c.if-old-keep.true
 
 pub loop-p-init : goal.loop-p-init
 loop-p-init g c =
@@ -32,9 +27,3 @@ loop-p-preserved g c =
     c.tell_run.new.outbox
     c.tell_run.ensures
     c.if-agree.ensures
-
-pub returns : goal.returns
-returns g c =
-    let a = c.args in
-    let l = c.loop-p in
-    hand_end g.O.Outbox.waiting g.O.Outbox.free g.V.Scale.scale a.memory.now a.keep a.rule a.n a.old a.outbox.now l.outbox c.tell_run-2.new.outbox l.first l.p l.value l.invariant c.loop-p-test.false c.tell_run-2.ensures
