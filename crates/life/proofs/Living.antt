@@ -26,8 +26,8 @@ module _ {V O C : Type 0} (s : Scale V) (ask : ℕ → ℕ → Result V Fault) (
   pub living_start : Living 0 before begun from None
   living_start = record { made = []; logged = sym (append-nil before); counted = refl; run = start; named = begins }
 
-  pub living_on : (count : ℕ) (log log' : Log V) (x y : State V O) (c c' : C) (l : Option (Answer V)) (o : Option Call) (k : Call) (a : Answer V) → Living count log x c l → o ≡ Some k → o ≡ names c l → c' ≡ after c l → Step s ask b x y k a → log' ≡ log ++ (k, a) ∷ [] → Living (count + 1) log' y c' (Some a)
-  living_on count log log' x y c c' l o k a g is named moved step grown = record {
+  pub living_on : {count : ℕ} {log log' : Log V} {x y : State V O} {c c' : C} {l : Option (Answer V)} {o : Option Call} {k : Call} {a : Answer V} → Living count log x c l → o ≡ Some k → o ≡ names c l → c' ≡ after c l → Step s ask b x y k a → log' ≡ log ++ (k, a) ∷ [] → Living (count + 1) log' y c' (Some a)
+  living_on {k = k} {a = a} g is named moved step grown = record {
     made = g.made ++ (k, a) ∷ [];
     logged = grown ∙ ap (λ e. e ++ (k, a) ∷ []) g.logged ∙ append_assoc before g.made ((k, a) ∷ []);
     counted = omega (arith, length_push g.made (k, a), g.counted);
@@ -36,15 +36,15 @@ module _ {V O C : Type 0} (s : Scale V) (ask : ℕ → ℕ → Result V Fault) (
   }
 
   -- a life that ended as the caller ended, or with the log's room
-  pub lived : (o : Lattice s) (p : Plan) (memory : List V) (room count : ℕ) (log : Log V) (x : State V O) (c to : C) (l : Option (Answer V)) → Begun s p memory begun.outbox begun → Living count log x c l → ((names c l ≡ None) × (to ≡ after c l)) ⊎ ((count ≡ room) × (to ≡ c)) → Life s ask b names after p memory begun.outbox room from to before log x
-  lived o p memory room count log x c to l beg g end = record {
+  pub lived : (o : Lattice s) {p : Plan} {memory : List V} {room count : ℕ} {log : Log V} {x : State V O} {c to : C} {l : Option (Answer V)} → Begun s p memory begun.outbox begun → Living count log x c l → ((names c l ≡ None) × (to ≡ after c l)) ⊎ ((count ≡ room) × (to ≡ c)) → Life s ask b names after p memory begun.outbox room from to before log x
+  lived o {c = c} {l = l} beg g end = record {
     made = g.made;
     logged = g.logged;
     begun = begun;
     begins = beg;
     run = g.run;
     calls = record { caller = c; told = l; named = g.named; ended = ⊎_elim inl (λ e. inr (g.counted ∙ e.0, e.1)) end };
-    kept = always_kept s o ask b begun beg.ticks beg.every g.made x g.run;
+    kept = always_kept s o ask b begun beg.ticks beg.every g.made _ g.run;
   }
 
 -- the state after set-up

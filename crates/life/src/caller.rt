@@ -1,9 +1,10 @@
 //! Who names the calls.
-ghost use Rattle.std.specs.Prelude.{◌≡◌, Option};
+ghost use Rattle.std.specs.Prelude.{◌≡◌, List, Option, drop, slice_get};
 ghost use Rattle.calls.specs.declared.call.Call.{Call};
-ghost use Rattle.life.specs.Callers.{replayed, replayed_on, emptying};
+ghost use Rattle.life.specs.Callers.{emptying};
 
 use calls::call::{Answer, Call};
+use std::marker::Model;
 
 /// Told the last answer, a caller names the next call or ends.
 pub trait Caller<L: Copy> {
@@ -18,35 +19,34 @@ pub trait Caller<L: Copy> {
         ensures moved { self.new ≡ after self.old last };
 }
 
-/// Names the calls of a list, one after the other, whatever is answered.
+/// Names the calls of a list, one after the other, whatever is answered. It is known by the calls that are left.
 #[derive(Drop)]
 pub struct Replay<'c> {
     calls: &'c [Call],
-    at: usize,
+}
+
+impl<'c> Model for Replay<'c> {
+    ghost Value = { List Call };
+
+    ghost view = { λ s. s.calls.now };
 }
 
 impl<'c> Replay<'c> {
     /// All calls of this list.
     pub fn new(calls: &'c [Call]) -> Replay<'c>
-        ensures calls { result.calls.now ≡ calls.now }
-        ensures at { result.at ≡ 0 }
+        ensures { result ≡ calls.now }
     {
-        Replay { calls, at: 0 }
+        Replay { calls }
     }
 }
 
 impl<'c, L: Copy> Caller<L> for Replay<'c> {
-    ghost names = { λ s l. replayed s };
+    ghost names = { λ calls l. slice_get calls 0 };
 
-    ghost after = { λ s l. replayed_on s };
+    ghost after = { λ calls l. drop 1 calls };
 
     fn next(&mut self, last: L) -> Option<Call> {
-        let at = self.at;
-        if at < self.calls.len() {
-            self.at = at + 1;
-            return Some(self.calls[at]);
-        }
-        None
+        self.calls.split_off_first().copied()
     }
 }
 

@@ -33,14 +33,12 @@ pub fn live_on<'m, V: Scale, S: Source<Value = V>, O: Outbox<V>, C: Caller<Optio
     let mut last: Option<Answer<V>> = None;
     let room = log.capacity() - log.len();
     for _ in 0..room {
-        match caller.next(last) {
-            None => break,
-            Some(call) => {
-                let answer = make(&mut monitor, source, outbox, call);
-                log.push_reserved((call, answer));
-                last = Some(answer);
-            }
-        }
+        let Some(call) = caller.next(last) else {
+            break;
+        };
+        let answer = make(&mut monitor, source, outbox, call);
+        log.push_reserved((call, answer));
+        last = Some(answer);
     }
     monitor
 }
@@ -72,10 +70,7 @@ pub fn live<V: Scale, S: Source<Value = V>, O: Outbox<V>, C: Caller<Option<Answe
 ) -> Result<(Vec<(Call, Answer<V>)>, Totals), AllocError>
     ensures { MatchResult result (λ p. ((room : ℕ) × ((most ≤ room) × ClosedLife V.Scale.scale (answer S.layer (S.frames source.now)) (box_of O.waiting O.free O.regained) C.names C.after plan memory.old memory.new outbox.old outbox.new room caller.old caller.new [] p.0.items (as_totals p.1)))) (λ _. (memory.new ≡ memory.old) × (outbox.new ≡ outbox.old) × (caller.new ≡ caller.old)) }
 {
-    let mut log: Vec<(Call, Answer<V>)> = match Vec::with_capacity(heap, most) {
-        Ok(log) => log,
-        Err(error) => return Err(error),
-    };
+    let mut log = Vec::with_capacity(heap, most)?;
     let totals = live_closed(plan, memory, source, outbox, caller, &mut log);
     Ok((log, totals))
 }
