@@ -11,120 +11,86 @@ ghost use Rattle.settling.specs.Statements.{Sound, Lasting, Earliest, Bounded, E
 ghost use Rattle.settling.specs.Telling.{ToldOnce, AllInTime, RunsApart, BurstBound, Totalled, Unforeseen};
 
 /// Larger operands give a larger value, and for `not` a smaller one.
-pub fn larger_operands_give_a_larger_value<V>() -> u8
+pub fn larger_operands_give_a_larger_value<V>()
     ensures { Monotone V }
-{
-    0
-}
+{}
 
 /// Each value is what its formula says, over exactly the positions that it names.
-pub fn values_mean_what_they_say<V>() -> u8
+pub fn values_mean_what_they_say<V>()
     ensures { Meant V }
-{
-    0
-}
+{}
 
 /// A settled verdict is the formula's value, however the samples go on.
-pub fn settled_verdicts_are_the_values<V>() -> u8
+pub fn settled_verdicts_are_the_values<V>()
     ensures { Sound V }
-{
-    0
-}
+{}
 
 /// What is settled stays settled, with the same verdict.
-pub fn settled_stays_settled<V>() -> u8
+pub fn settled_stays_settled<V>()
     ensures { Lasting V }
-{
-    0
-}
+{}
 
 /// At the first position that is not settled the two results differ, so no known position is held back.
-pub fn nothing_known_is_held_back<V>() -> u8
+pub fn nothing_known_is_held_back<V>()
     ensures { Earliest V }
-{
-    0
-}
+{}
 
 /// Every position is settled no later than its worst lag, and not before its best.
-pub fn settled_within_the_lags<V>() -> u8
+pub fn settled_within_the_lags<V>()
     ensures { Bounded V }
-{
-    0
-}
+{}
 
 /// All that a tick reads of a node's positions, and all that it tells of them, waits at it.
-pub fn what_is_read_waits<V>() -> u8
+pub fn what_is_read_waits<V>()
     ensures { EnoughWaits V }
-{
-    0
-}
+{}
 
 /// All that waits is among the newest settled positions, as many as there are places.
-pub fn what_waits_has_a_place<V>() -> u8
+pub fn what_waits_has_a_place<V>()
     ensures { HeldInPlaces V }
-{
-    0
-}
+{}
 
 /// The list of what waits is exact, and no longer than there are places.
-pub fn no_more_wait_than_places<V>() -> u8
+pub fn no_more_wait_than_places<V>()
     ensures { WaitingCounted V }
-{
-    0
-}
+{}
 
 /// The value at the last tick's position lies between the early ends, however the samples go on.
-pub fn early_ends_enclose_the_value<V>() -> u8
+pub fn early_ends_enclose_the_value<V>()
     ensures { Enclosing V }
-{
-    0
-}
+{}
 
 /// A position that is settled at its own tick has its verdict as both early ends.
-pub fn settled_at_its_own_tick_is_decided<V>() -> u8
+pub fn settled_at_its_own_tick_is_decided<V>()
     ensures { Decided V }
-{
-    0
-}
+{}
 
 /// The records of a rule tell each settled position once, upward and with its value.
-pub fn each_position_is_told_once<V>() -> u8
+pub fn each_position_is_told_once<V>()
     ensures { ToldOnce V }
-{
-    0
-}
+{}
 
 /// Each record is issued at the first tick after which its positions and all before them are known.
-pub fn told_at_the_first_tick_possible<V>() -> u8
+pub fn told_at_the_first_tick_possible<V>()
     ensures { AllInTime V }
-{
-    0
-}
+{}
 
 /// Neighbouring records of a tick are of rising rules, or go on in one rule with another verdict.
-pub fn neighbouring_records_differ<V>() -> u8
+pub fn neighbouring_records_differ<V>()
     ensures { RunsApart V }
-{
-    0
-}
+{}
 
 /// No tick settles more positions of its rules, or issues more records, than the burst.
-pub fn no_tick_passes_the_burst<V>() -> u8
+pub fn no_tick_passes_the_burst<V>()
     ensures { BurstBound V }
-{
-    0
-}
+{}
 
 /// Close counts for each rule what its records told as settled, and every other tick as open.
-pub fn close_counts_what_was_told<V>() -> u8
+pub fn close_counts_what_was_told<V>()
     ensures { Totalled V }
-{
-    0
-}
+{}
 
 /// Nothing that is settled, told, read early or counted depends on later samples.
-pub fn later_samples_do_not_matter<V>() -> u8
+pub fn later_samples_do_not_matter<V>()
     ensures { Unforeseen V }
-{
-    0
-}
+{}
