@@ -1,13 +1,9 @@
 -- A power of two times a margin, and a term's part in a sum, stay far within 32 bits. Assumes nothing.
-use Rattle.std.proofs.Common.{◌≡◌, ℕ, suc, ◌*◌, ◌%◌, ◌^◌, ◌≤◌, ℤ, pos, negsuc, ◌+ℤ◌, ◌*ℤ◌, ◌≤ℤ◌, Ok, Err, Result, sym, ap, ◌∙◌, subst, arith, pow_mono, w32, to_z, of_z}
-use Rattle.std.specs.Result.{IfOk}
+use Rattle.std.proofs.Common.{◌≡◌, ℕ, suc, ◌*◌, ◌%◌, ◌^◌, ◌≤◌, ℤ, pos, negsuc, ◌+ℤ◌, ◌*ℤ◌, ◌≤ℤ◌, sym, ap, ◌∙◌, subst, arith, pow_mono, w32, to_z, of_z}
 use Rattle.std.proofs.lemmas.Nat.{mul-le, one_shl, pow_below}
 use Rattle.std.proofs.lemmas.Int.{ints, to_z_pos}
-use Rattle.std.proofs.lemmas.Bool.{cond_both}
-use Rattle.source.specs.declared.fault.Fault.{Fault}
 use Rattle.margin.specs.declared.Margin.{Margin}
-use Rattle.comparators.specs.Terms.{Narrow, sign_number}
-use Rattle.comparators.specs.Comparing.{part, of_answer, asked}
+use Rattle.comparators.specs.Terms.{Narrow, sign_number, weighed}
 use Rattle.comparators.specs.declared.scaled.Scaled.{Scaled}
 use Rattle.comparators.specs.declared.scaled.Sign.{Sign}
 use Rattle.comparators.specs.declared.scaled.Sign.TheVariants.{Minus, Zero, Plus}
@@ -46,13 +42,8 @@ with_sign Minus x n = record { low = omega (arith, ints, n.high); high = omega (
 with_sign Zero x n = record { low = omega (arith, ints); high = omega (arith, ints) }
 with_sign Plus x n = record { low = omega (arith, ints, n.low); high = omega (arith, ints, n.high) }
 
-answered : (x : Scaled) (r : Result Margin Fault) → IfOk (of_answer x r) Narrow
-answered x (Ok m) = with_sign x.sign _ (shifted_narrow x m)
-answered x (Err f) = tt
-
--- a term's part in the sum is narrow
-pub part_narrow : (ask : ℕ → Result Margin Fault) (x : Scaled) (a : ℤ) → Ok a ≡ part ask x → Narrow (to_z w32 (of_z w32 a))
-part_narrow ask x a is =
-    let n : Narrow a = subst (λ r. IfOk r Narrow) (sym is)
-    (cond_both (asked x.sign) (of_answer x (ask x.word)) (Ok (pos 0)) (λ r. IfOk r Narrow) (λ _. answered x (ask x.word)) (λ _. record { low = omega (arith, ints); high = omega (arith, ints) })) in
+-- a term's part in the sum, as the code has it
+pub part_narrow : (x : Scaled) (m : Margin) (a : ℤ) → a ≡ weighed x m.value → Narrow (to_z w32 (of_z w32 a))
+part_narrow x m a is =
+    let n : Narrow a = subst Narrow (sym is) (with_sign x.sign _ (shifted_narrow x m)) in
     rw (kept a n) n

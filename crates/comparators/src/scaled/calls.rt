@@ -1,5 +1,5 @@
 //! How a term is made of plain numbers, and worked out.
-ghost use Rattle.std.specs.Prelude.{◌≡◌, ◌^◌, pos, ◌*ℤ◌};
+ghost use Rattle.std.specs.Prelude.{◌≡◌, ◌^◌, pos, ◌*ℤ◌, IfOk};
 ghost use Rattle.comparators.specs.Comparing.{part};
 ghost use Rattle.comparators.specs.Adding.{Makes};
 ghost use Rattle.source.specs.Frames.{answer};
@@ -60,7 +60,8 @@ impl Default for Scaled {
 impl Scaled {
     /// The term's part in the sum: its word is asked below, unless its sign is 0.
     pub fn work_out<S: Source<Value = Margin>>(self, below: &S, tick: usize) -> Result<i32, Fault>
-        ensures { result ≡ part (answer S.layer (S.frames below.now) tick) self }
+        ensures value { result ≡ part (answer S.layer (S.frames below.now) tick) self }
+        ensures narrow { IfOk result Narrow }
     {
         match self.sign {
             Sign::Zero => Ok(0),
