@@ -1,3 +1,1 @@
 mod Scaling
-mod Storing
-mod Judging

@@ -11,9 +11,13 @@ sign_number Minus = negsuc 0
 sign_number Zero = pos 0
 sign_number Plus = pos 1
 
+-- whether a sign has this number: -1, 0 or 1
+abbrev pub signed : ℤ → Bool
+signed n = int_le (negsuc 0) n && int_le n (pos 1)
+
 -- whether the sign is -1, 0 or 1 and the shift 0 to 7
 abbrev pub fair : Term → Bool
-fair t = int_le (negsuc 0) t.sign && int_le t.sign (pos 1) && nat_le t.shift 7
+fair t = signed t.sign && nat_le t.shift 7
 
 -- the numbers that a term was made of
 abbrev pub as_given : Scaled → Term

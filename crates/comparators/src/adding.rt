@@ -2,7 +2,7 @@
 ghost use Rattle.std.specs.Prelude.{◌≡◌};
 ghost use Rattle.comparators.specs.Adding.{add_number};
 
-/// A word below with its sign and its shift, in plain numbers that are judged when they are added.
+/// A word below with its sign and its shift, in plain numbers that are judged when it is added.
 #[derive(Clone, Copy)]
 pub struct Term {
     /// The sample number below. Any number will do: the source below refuses the question for a sample that it lacks.
@@ -13,15 +13,26 @@ pub struct Term {
     pub shift: u32,
 }
 
+/// A comparator in plain numbers, which are judged when it is added.
+#[derive(Clone, Copy)]
+pub struct Given {
+    pub first: Term,
+    pub second: Term,
+    /// 1 to 6: equal, unequal, below, at most, above, at least.
+    pub comparison: u32,
+    /// What the sum of the two terms is held against.
+    pub limit: i32,
+}
+
 /// Why a comparator is not added.
 #[derive(Clone, Copy, PartialEq, Eq, Debug)]
 pub enum AddFault {
     /// 32 are held.
-    Full,
+    Full = 41,
     /// A sign is not -1, 0 or 1, or a shift is above 7.
-    BadTerm,
+    BadTerm = 42,
     /// The comparison is not 1 to 6.
-    BadComparison,
+    BadComparison = 43,
 }
 
 impl AddFault {
@@ -29,10 +40,6 @@ impl AddFault {
     pub fn number(self) -> u8
         ensures { result ≡ add_number self }
     {
-        match self {
-            AddFault::Full => 41,
-            AddFault::BadTerm => 42,
-            AddFault::BadComparison => 43,
-        }
+        self as u8
     }
 }

@@ -6,7 +6,7 @@ ghost use Rattle.comparators.specs.Comparing.{compared, said};
 ghost use Rattle.source.specs.Frames.{answer};
 ghost use Rattle.comparators.specs.Terms.{Narrow};
 
-use super::adding::{AddFault, Term};
+use super::adding::{AddFault, Given};
 use super::comparison::Comparison;
 use super::scaled::Scaled;
 use margin::Margin;
@@ -16,7 +16,7 @@ use source::Source;
 use source::fault::Fault;
 
 /// The sum of two terms, held against a limit.
-#[derive(Clone, Copy)]
+#[derive(Clone, Copy, Default)]
 pub struct Comparator {
     pub first: Scaled,
     pub second: Scaled,
@@ -24,34 +24,22 @@ pub struct Comparator {
     pub limit: i32,
 }
 
-impl Comparator {
-    /// The comparator of these numbers.
-    pub fn new(
-        first: Term,
-        second: Term,
-        comparison: u32,
-        limit: i32,
-    ) -> Result<Comparator, AddFault>
-        ensures refusal { result_err result ≡ unmade first second comparison }
-        ensures made { IfOk result (λ x. Says x first second comparison limit) }
-    {
-        let Some(first) = Scaled::new(first) else {
-            return Err(AddFault::BadTerm);
-        };
-        let Some(second) = Scaled::new(second) else {
-            return Err(AddFault::BadTerm);
-        };
-        let Some(comparison) = Comparison::new(comparison) else {
-            return Err(AddFault::BadComparison);
-        };
+impl TryFrom<Given> for Comparator {
+    type Error = AddFault;
+
+    ghost try_from_gives = { λ given made. (result_err made ≡ unmade given) × IfOk made (λ x. Says x given) };
+
+    fn try_from(given: Given) -> Result<Comparator, AddFault> {
         Ok(Comparator {
-            first,
-            second,
-            comparison,
-            limit,
+            first: Scaled::try_from(given.first)?,
+            second: Scaled::try_from(given.second)?,
+            comparison: Comparison::try_from(given.comparison)?,
+            limit: given.limit,
         })
     }
+}
 
+impl Comparator {
     /// Yes if the sum meets the limit; a fault from below as it is, the first term's first.
     pub fn judge<S: Source<Value = Margin>>(self, below: &S, tick: usize) -> Result<YesNo, Fault>
         ensures { result ≡ compared (answer S.layer (S.frames below.now) tick) self }
@@ -67,10 +55,6 @@ impl Comparator {
         requires second { Narrow second }
         ensures { result ≡ said self first second }
     {
-        if self.comparison.is_met(first + second, self.limit) {
-            YesNo::Yes
-        } else {
-            YesNo::No
-        }
+        YesNo::from(self.comparison.is_met(first + second, self.limit))
     }
 }

@@ -8,20 +8,20 @@ pub mod adding;
 mod comparator;
 mod comparison;
 mod scaled;
-mod store;
 
 ghost use Rattle.std.specs.Prelude.{◌≡◌, true, [], length, is_ok, is_err};
 ghost use Rattle.std.specs.Result.{result_err};
-ghost use Rattle.comparators.specs.Adding.{unadded, listed, Added};
+ghost use Rattle.comparators.specs.Adding.{unadded, Added};
 ghost use Rattle.comparators.specs.Comparing.{comparing};
 
-use adding::{AddFault, Term};
+use adding::{AddFault, Given};
+use arrayvec::ArrayVec;
+use comparator::Comparator;
 use margin::Margin;
 use scale::Scale;
 use scale::yes_no::YesNo;
 use source::Source;
 use source::fault::{Fault, refuse};
-use store::Store;
 
 /// The layer of comparators.
 const COMPARATORS_LAYER: u8 = 3;
@@ -30,35 +30,33 @@ const COMPARATORS_LAYER: u8 = 3;
 #[derive(Drop)]
 pub struct Comparators<S> {
     below: S,
-    store: Store,
+    held: ArrayVec<Comparator, 32>,
 }
 
 impl<S: Source<Value = Margin>> Comparators<S> {
     /// No comparators yet.
     pub fn new(below: S) -> Comparators<S>
         ensures below { result.below ≡ below }
-        ensures empty { listed result.store ≡ [] }
+        ensures empty { result.held.items ≡ [] }
     {
         Comparators {
             below,
-            store: Store::new(),
+            held: ArrayVec::new(),
         }
     }
 
     /// Adds a comparator after the others, or changes nothing.
-    pub fn add(
-        &mut self,
-        first: Term,
-        second: Term,
-        comparison: u32,
-        limit: i32,
-    ) -> Result<(), AddFault>
-        ensures refusal { result_err result ≡ unadded (length (listed self.old.store)) first second comparison }
+    pub fn add(&mut self, given: Given) -> Result<(), AddFault>
+        ensures refusal { result_err result ≡ unadded (length self.old.held.items) given }
         ensures refused { is_err result ≡ true → self.new ≡ self.old }
         ensures below { self.new.below ≡ self.old.below }
-        ensures added { is_ok result ≡ true → Added (listed self.old.store) (listed self.new.store) first second comparison limit }
+        ensures added { is_ok result ≡ true → Added self.old.held.items self.new.held.items given }
     {
-        self.store.add(first, second, comparison, limit)
+        if self.held.is_full() {
+            return Err(AddFault::Full);
+        }
+        self.held.push(Comparator::try_from(given)?);
+        Ok(())
     }
 }
 
@@ -69,7 +67,7 @@ impl<S: Source<Value = Margin>> Source for Comparators<S> {
 
     ghost layer = { 3 };
 
-    ghost frames = { λ s. comparing S.Source.layer (S.Source.frames s.below) (listed s.store) };
+    ghost frames = { λ s. comparing S.Source.layer (S.Source.frames s.below) s.held.items };
 
     fn layer_number() -> u8 {
         COMPARATORS_LAYER
@@ -80,13 +78,11 @@ impl<S: Source<Value = Margin>> Source for Comparators<S> {
     }
 
     fn width(&self) -> usize {
-        self.store.len()
+        self.held.len()
     }
 
     fn ask(&self, tick: usize, sample: usize) -> Result<YesNo, Fault> {
-        if let Some(fault) = refuse(COMPARATORS_LAYER, self.length(), self.width(), tick, sample) {
-            return Err(fault);
-        }
-        self.store.at(sample).judge(&self.below, tick)
+        refuse(COMPARATORS_LAYER, self.length(), self.width(), tick, sample)?;
+        self.held[sample].judge(&self.below, tick)
     }
 }

@@ -2,11 +2,12 @@
 ghost use Rattle.std.specs.Prelude.{◌≤◌};
 
 /// Whether a word is taken off, left out or added.
-#[derive(Clone, Copy)]
+#[derive(Clone, Copy, Default)]
 pub enum Sign {
-    Minus,
-    Zero,
-    Plus,
+    Minus = -1,
+    #[default]
+    Zero = 0,
+    Plus = 1,
 }
 
 /// A word with its sign and its shift.

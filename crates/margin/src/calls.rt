@@ -7,7 +7,7 @@ use super::Margin;
 use scale::Scale;
 
 impl Margin {
-    /// The margin of a number; the lowest number of 16 bits has none.
+    /// The margin of a number; the lowest number of 16 bits has none. `new` and `get` are the names that std's `NonZero` has.
     pub fn new(value: i16) -> Option<Margin>
         ensures { MatchOption result (value ≡ negsuc 32767) (λ m. m.value ≡ value) }
     {
@@ -42,7 +42,7 @@ impl Scale for Margin {
     }
 
     fn at_most(self, other: Margin) -> bool {
-        self.value <= other.value
+        self <= other
     }
 
     fn lowest() -> Margin {
@@ -53,22 +53,7 @@ impl Scale for Margin {
         Margin { value: 32767 }
     }
 
-    fn lesser(self, other: Margin) -> Margin {
-        if self.value <= other.value {
-            self
-        } else {
-            other
-        }
-    }
-
-    fn greater(self, other: Margin) -> Margin {
-        if self.value <= other.value {
-            other
-        } else {
-            self
-        }
-    }
-
+    #[tactic(auto, using(crate::specs::Margins::same_number))]
     fn reverse(self) -> Margin {
         Margin { value: -self.value }
     }
@@ -78,11 +63,6 @@ impl Scale for Margin {
     }
 
     fn decode(code: u16) -> Option<Margin> {
-        if code == 0x8000 {
-            return None;
-        }
-        Some(Margin {
-            value: code.cast_signed(),
-        })
+        Margin::new(code.cast_signed())
     }
 }

@@ -5,7 +5,7 @@
 ghost use Rattle.std.specs.Prelude.{pos, negsuc, ◌≤ℤ◌};
 
 /// A whole number from -32,767 to 32,767: how far a rule holds, below 0 how far it fails.
-#[derive(Clone, Copy, PartialEq, Eq, Debug)]
+#[derive(Clone, Copy, PartialEq, Eq, PartialOrd, Ord, Hash, Debug)]
 pub struct Margin {
     value: i16,
     ghost low: { negsuc 32766 ≤ℤ value },

@@ -34,11 +34,19 @@ pub trait Scale: Copy {
     fn highest() -> Self
         ensures { result ≡ scale.highest };
 
+    /// The lesser of two values. The order decides it, so a scale need not say it.
     fn lesser(self, other: Self) -> Self
-        ensures { result ≡ scale.lesser self other };
+        ensures { result ≡ scale.lesser self other }
+    {
+        if self.at_most(other) { self } else { other }
+    }
 
+    /// The greater of two values, by the order too.
     fn greater(self, other: Self) -> Self
-        ensures { result ≡ scale.greater self other };
+        ensures { result ≡ scale.greater self other }
+    {
+        if self.at_most(other) { other } else { self }
+    }
 
     fn reverse(self) -> Self
         ensures { result ≡ scale.reversed self };
@@ -62,15 +70,11 @@ pub fn comes_back<V: Scale>(value: V) -> Option<V>
 }
 
 /// A total order has greatest lower and least upper bounds.
-pub fn total_orders_have_bounds<V>() -> u8
+pub fn total_orders_have_bounds<V>()
     ensures { Bounds V }
-{
-    0
-}
+{}
 
 /// So has each scale.
-pub fn scales_have_bounds<V: Scale>() -> u8
+pub fn scales_have_bounds<V: Scale>()
     ensures { Lattice V.scale }
-{
-    0
-}
+{}

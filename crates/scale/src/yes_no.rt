@@ -1,15 +1,24 @@
 //! Yes or no, the scale of rules that only hold or fail.
-ghost use Rattle.std.specs.Prelude.{◌≡◌};
+ghost use Rattle.std.specs.Prelude.{◌≡◌, cond};
+ghost use Rattle.scale.specs.declared.yes_no.YesNo.TheVariants.{No, Yes};
 ghost use Rattle.scale.specs.YesNoScale.{yes_no, yes_no_code};
 ghost use Rattle.std.proofs.Common.{rules};
 
 use super::Scale;
 
 /// The verdict of a rule that only holds or fails; no is lowest.
-#[derive(Clone, Copy, PartialEq, Eq, Debug)]
+#[derive(Clone, Copy, PartialEq, Eq, PartialOrd, Ord, Hash, Debug)]
 pub enum YesNo {
-    No,
-    Yes,
+    No = 0,
+    Yes = 1,
+}
+
+impl From<bool> for YesNo {
+    ghost from_gives = { λ holds verdict. verdict ≡ cond holds Yes No };
+
+    fn from(holds: bool) -> YesNo {
+        if holds { YesNo::Yes } else { YesNo::No }
+    }
 }
 
 impl Scale for YesNo {
@@ -28,10 +37,7 @@ impl Scale for YesNo {
     }
 
     fn at_most(self, other: YesNo) -> bool {
-        match (self, other) {
-            (YesNo::Yes, YesNo::No) => false,
-            (_, _) => true,
-        }
+        self <= other
     }
 
     fn lowest() -> YesNo {
@@ -42,20 +48,6 @@ impl Scale for YesNo {
         YesNo::Yes
     }
 
-    fn lesser(self, other: YesNo) -> YesNo {
-        match self {
-            YesNo::No => YesNo::No,
-            YesNo::Yes => other,
-        }
-    }
-
-    fn greater(self, other: YesNo) -> YesNo {
-        match self {
-            YesNo::No => other,
-            YesNo::Yes => YesNo::Yes,
-        }
-    }
-
     fn reverse(self) -> YesNo {
         match self {
             YesNo::No => YesNo::Yes,
@@ -64,10 +56,7 @@ impl Scale for YesNo {
     }
 
     fn code(self) -> u16 {
-        match self {
-            YesNo::No => 0,
-            YesNo::Yes => 1,
-        }
+        self as u16
     }
 
     fn decode(code: u16) -> Option<YesNo> {

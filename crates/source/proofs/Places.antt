@@ -1,9 +1,8 @@
 -- Where the rows of a list lie. Assumes nothing.
-use Rattle.std.proofs.Common.{◌≡◌, ℕ, ◌+◌, ◌*◌, ◌/◌, ◌<◌, List, length, get_or, None, Ok, Option, ap, ◌∙◌, arith}
+use Rattle.std.proofs.Common.{◌≡◌, ℕ, ◌+◌, ◌*◌, ◌/◌, ◌<◌, List, length, get_or, None, Ok, ap, ◌∙◌, arith}
 use Rattle.std.proofs.lemmas.Nat.{mul-add-lt, div-add-mod', mod_below}
 use Rattle.std.proofs.lemmas.List.{get_or_read}
 use Rattle.std.proofs.lemmas.Bool.Decides.{nat_tests}
-use Rattle.source.specs.declared.fault.Fault.{Fault}
 use Rattle.source.specs.Frames.{outside, answer}
 use Rattle.source.specs.WholeRows.{whole_rows, Whole, rows}
 use Rattle.source.proofs.Asking.{answers, in_length, in_width}
@@ -22,15 +21,11 @@ whole n w = record {
   empty = λ e. grind (arith, nat_tests);
 }
 
--- a question that is judged not to lie outside the rows
-module _ {V : Type 0} (blank : V) (values : List V) (width t k : ℕ) {n w : ℕ} {o : Option Fault}
-    (long : n ≡ whole_rows (length values) width) (wide : w ≡ width) (judged : o ≡ outside 1 n w t k) (inside : o ≡ None) where
+-- a question that does not lie outside the rows
+module _ {V : Type 0} (blank : V) (values : List V) (width t k : ℕ) (inside : None ≡ outside 1 (whole_rows (length values) width) width t k) where
   pub in_list : t * width + k < length values
   in_list =
-      in_whole_rows (length values) width t k
-      (in_length 1 (rows blank values width) t k long wide judged inside)
-      (in_width 1 (rows blank values width) t k long wide judged inside)
+      in_whole_rows (length values) width t k (in_length 1 (rows blank values width) t k inside) (in_width 1 (rows blank values width) t k inside)
 
   pub reads : {v : V} → v ≡ get_or values (t * width + k) v → Ok v ≡ answer 1 (rows blank values width) t k
-  reads {v = v} is =
-      ap Ok (get_or_read values (t * width + k) v in_list is blank) ∙ answers 1 (rows blank values width) t k long wide judged inside
+  reads {v = v} is = ap Ok (get_or_read values (t * width + k) v in_list is blank) ∙ answers 1 (rows blank values width) t k inside

@@ -1,10 +1,11 @@
 //! Why a source has no value to answer with.
 ghost use Rattle.std.specs.Prelude.{◌≡◌};
+ghost use Rattle.std.specs.Result.{result_err};
 ghost use Rattle.source.specs.Faults.{refusal_number};
 ghost use Rattle.source.specs.Frames.{outside};
 
-/// Why there is no value at a tick and a sample. A layer hands a fault from below on as it is, so a fault holds the
-/// number of its reason and not an enum of one layer.
+/// Why there is no value at a tick and a sample. A layer hands a fault from below on as it is, and any source may have
+/// reasons of its own, so a fault holds the number of its reason: an enum would close the set.
 #[derive(Clone, Copy, PartialEq, Eq, Debug)]
 pub struct Fault {
     pub number: u8,
@@ -18,9 +19,9 @@ pub struct Fault {
 #[derive(Clone, Copy)]
 pub enum Refusal {
     /// The tick is not below the length.
-    PastLength,
+    PastLength = 33,
     /// The sample is not below the width.
-    PastWidth,
+    PastWidth = 34,
 }
 
 impl Refusal {
@@ -28,25 +29,22 @@ impl Refusal {
     pub fn number(self) -> u8
         ensures { result ≡ refusal_number self }
     {
-        match self {
-            Refusal::PastLength => 33,
-            Refusal::PastWidth => 34,
-        }
+        self as u8
     }
 }
 
-/// The refusal of a question that lies outside a source of this layer, length and width; none of one inside.
-pub fn refuse(layer: u8, long: usize, wide: usize, tick: usize, sample: usize) -> Option<Fault>
-    ensures { result ≡ outside layer long wide tick sample }
+/// Refuses a question that lies outside a source of this layer, length and width.
+pub fn refuse(layer: u8, long: usize, wide: usize, tick: usize, sample: usize) -> Result<(), Fault>
+    ensures { result_err result ≡ outside layer long wide tick sample }
 {
     let refusal = if tick >= long {
         Refusal::PastLength
     } else if sample >= wide {
         Refusal::PastWidth
     } else {
-        return None;
+        return Ok(());
     };
-    Some(Fault {
+    Err(Fault {
         number: refusal.number(),
         layer,
         tick,

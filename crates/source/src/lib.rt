@@ -50,10 +50,7 @@ pub trait Source {
 pub fn first_fault<S: Source>(source: &S, tick: usize, samples: &[usize]) -> Option<Fault>
     ensures { result ≡ first_fault (answer S.layer (S.frames source.now) tick) samples.now }
 {
-    for sample in samples {
-        if let Err(fault) = source.ask(tick, *sample) {
-            return Some(fault);
-        }
-    }
-    None
+    samples
+        .iter()
+        .find_map(|sample| source.ask(tick, *sample).err())
 }

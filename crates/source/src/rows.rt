@@ -48,10 +48,7 @@ impl<'a, V: Scale> Source for Rows<'a, V> {
     }
 
     fn length(&self) -> usize {
-        if self.width == 0 {
-            return 0;
-        }
-        self.values.len() / self.width
+        self.values.len().checked_div(self.width).unwrap_or(0)
     }
 
     fn width(&self) -> usize {
@@ -59,16 +56,12 @@ impl<'a, V: Scale> Source for Rows<'a, V> {
     }
 
     fn ask(&self, tick: usize, sample: usize) -> Result<V, Fault> {
-        if let Some(fault) = refuse(ROWS_LAYER, self.length(), self.width(), tick, sample) {
-            return Err(fault);
-        }
+        refuse(ROWS_LAYER, self.length(), self.width(), tick, sample)?;
         Ok(self.read(tick, sample))
     }
 }
 
 /// The length of rows counts the whole rows, and all of them.
-pub fn lengths_are_whole() -> u8
+pub fn lengths_are_whole()
     ensures { WholeLengths }
-{
-    0
-}
+{}

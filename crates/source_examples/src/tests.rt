@@ -1,6 +1,6 @@
 //! Examples of sources, asked from outside: what a caller sees of rows, of comparators over rows, and of their faults.
 use comparators::Comparators;
-use comparators::adding::{AddFault, Term};
+use comparators::adding::{AddFault, Given, Term};
 use margin::Margin;
 use scale::Scale;
 use scale::yes_no::YesNo;
@@ -26,6 +26,15 @@ fn term(word: usize, sign: i32, shift: u32) -> Term {
     Term { word, sign, shift }
 }
 
+fn given(first: Term, second: Term, comparison: u32, limit: i32) -> Given {
+    Given {
+        first,
+        second,
+        comparison,
+        limit,
+    }
+}
+
 #[test]
 fn past_the_length_comes_before_past_the_width(rt: HostRuntime) {
     let values = [YesNo::Yes, YesNo::No];
@@ -47,7 +56,7 @@ fn a_partial_last_row_is_no_tick(rt: HostRuntime) {
 fn twice_a_less_b_is_at_least_ten(rt: HostRuntime) -> Result<(), Fail> {
     let values = [margin(7), margin(4), margin(6), margin(3)];
     let mut sums = Comparators::new(Rows::new(&values, 2));
-    sums.add(term(0, 1, 1), term(1, -1, 0), 6, 10)?;
+    sums.add(given(term(0, 1, 1), term(1, -1, 0), 6, 10))?;
     assert_eq!(rt; sums.ask(0, 0), Ok(YesNo::Yes), "14 - 4");
     assert_eq!(rt; sums.ask(1, 0), Ok(YesNo::No), "12 - 3");
     Ok(())
@@ -57,8 +66,8 @@ fn twice_a_less_b_is_at_least_ten(rt: HostRuntime) -> Result<(), Fail> {
 fn a_fault_from_below_passes_unless_the_sign_is_0(rt: HostRuntime) -> Result<(), Fail> {
     let values = [margin(-1)];
     let mut sums = Comparators::new(Rows::new(&values, 1));
-    sums.add(term(0, 1, 0), term(5, 1, 0), 3, 0)?;
-    sums.add(term(0, 1, 0), term(5, 0, 0), 3, 0)?;
+    sums.add(given(term(0, 1, 0), term(5, 1, 0), 3, 0))?;
+    sums.add(given(term(0, 1, 0), term(5, 0, 0), 3, 0))?;
     assert_eq!(rt; sums.ask(0, 0), Err(fault(34, 1, 0, 5)));
     assert_eq!(rt; sums.ask(0, 1), Ok(YesNo::Yes));
     assert_eq!(rt; sums.ask(0, 2), Err(fault(34, 3, 0, 2)));
@@ -70,14 +79,14 @@ fn there_are_at_most_32_comparators(rt: HostRuntime) -> Result<(), Fail> {
     let values = [margin(-1)];
     let mut sums = Comparators::new(Rows::new(&values, 1));
     assert_eq!(rt;
-        sums.add(term(0, 2, 0), term(0, 1, 0), 7, 0),
+        sums.add(given(term(0, 2, 0), term(0, 1, 0), 7, 0)),
         Err(AddFault::BadTerm)
     );
     for _ in 0..32 {
-        sums.add(term(0, 1, 7), term(0, 1, 7), 4, 0)?;
+        sums.add(given(term(0, 1, 7), term(0, 1, 7), 4, 0))?;
     }
     assert_eq!(rt;
-        sums.add(term(0, 2, 0), term(0, 1, 0), 7, 0),
+        sums.add(given(term(0, 2, 0), term(0, 1, 0), 7, 0)),
         Err(AddFault::Full)
     );
     Ok(())

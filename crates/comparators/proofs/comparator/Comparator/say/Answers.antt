@@ -1,14 +1,11 @@
 -- The sum that is held against the limit does not wrap.
 use Rattle.std.proofs.Common.{w32, SFits, rules}
-use Rattle.comparators.proofs.Judging.{says}
+use Rattle.std.proofs.lemmas.Int.{to_z-of_z}
+use Rattle.comparators.proofs.Scaling.{sum_is}
 use Rattle.comparators.proofs.comparator.Comparator.say.Goals as goal
 
-pub returns-then-is_met : goal.returns-then-is_met
-returns-then-is_met c =
+pub returns : goal.returns
+returns c =
     let fits : SFits w32 c.args.self.limit = search rules in
-    says c.args.self c.args.first c.args.second c.requires.first c.requires.second fits c.if-is_met.ensures
-
-pub returns-else-is_met : goal.returns-else-is_met
-returns-else-is_met c =
-    let fits : SFits w32 c.args.self.limit = search rules in
-    says c.args.self c.args.first c.args.second c.requires.first c.requires.second fits c.if-is_met.ensures
+    let met = rw (sum_is c.args.first c.args.second c.requires.first c.requires.second, to_z-of_z w32 c.args.self.limit fits) at c.is_met.ensures in
+    cc
