@@ -1,0 +1,9 @@
+-- The table that nodes and rules make which passed so far. Assumes nothing.
+use Rattle.std.specs.Prelude.{take}
+use Rattle.table_check.specs.declared.judge.Judged.{Judged}
+use Rattle.table_check.specs.declared.rules.Named.{Named}
+use Rattle.table_check.specs.Judging.{of_lists}
+use Rattle.table.specs.Tables.{Table}
+
+abbrev pub drafted : Judged → Named → Table
+drafted j n = of_lists (take j.size j.nodes) (take n.count n.rules)
