@@ -35,6 +35,7 @@ impl TableFault {
     pub fn number(self) -> u8
         ensures { result ≡ (refusal_of self).number }
     {
+        // A variant that holds a place has no number for `as` to read.
         match self {
             TableFault::NodeCount => 11,
             TableFault::RuleCount => 12,

@@ -52,6 +52,7 @@ pub(crate) fn judge_nodes(written: &[UncheckedNode]) -> Result<Judged, TableFaul
 {
     let mut nodes = [BLANK; 64];
     let mut lags = [AT_ONCE; 64];
+    // By index, since the lags are looked up while they are filled.
     for (k, one) in written.iter().enumerate() {
         let own = k as u8;
         let node = read_node(one, own)?;

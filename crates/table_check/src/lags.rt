@@ -19,6 +19,7 @@ pub(crate) fn lag_at(lags: &[Lag], k: u16) -> Lag
 }
 
 /// The lag of a node from those of its operands, or the first of the faults that come with it.
+#[tactic(auto, unfolding(table::specs::Lags::lag_of))]
 pub(crate) fn judge_lag(node: &Node, own: u8, left: Lag, right: Lag) -> Result<Lag, TableFault>
     requires window { node.now.from ≤ node.now.to }
     requires near { node.now.to ≤ 4095 }

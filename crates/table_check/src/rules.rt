@@ -29,6 +29,7 @@ pub(crate) fn name_nodes(rules: &[u16], size: usize) -> Result<Named, TableFault
     ensures named { IfOk result (λ n. take n.count n.rules ≡ rules.now) }
 {
     let mut named = [0; 16];
+    // By index, since a zip of places, rules and their numbers is no plainer than `named[r]`.
     for (r, node) in rules.iter().enumerate() {
         if usize::from(*node) >= size {
             return Err(TableFault::NoSuchNode(r as u8));
