@@ -11,7 +11,7 @@ use Rattle.std.specs.List.{fold, list_any, sum_by}
 use Rattle.table.specs.declared.node.Lag.{Lag}
 use Rattle.table.specs.declared.node.Node.{Node}
 use Rattle.table.specs.Tables.{Table, blank}
-use Rattle.table.specs.Lags.{lags, no_lag, worst, best}
+use Rattle.table.specs.Lags.{lags}
 use Rattle.table.specs.Places.{most, total, places, need, burst, slack}
 use Rattle.table.specs.Refusals.{any, used}
 use Rattle.table_check.specs.Judging.{of_lists, by_node, by_nodes, by_rules, bursts, is_parent}

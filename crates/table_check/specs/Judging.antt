@@ -1,5 +1,5 @@
 -- What the parts of the check find, from the lists that they see. Assumes nothing.
-use Rattle.std.specs.Prelude.{◌≡◌, ℕ, ◌+◌, ◌-◌, max, Bool, false, cond, ◌||◌, List, [], map, length, get_or, Some, None, Option, ◌==◌, nat_eq, nat_lt, slice_index, slice_index_or}
+use Rattle.std.specs.Prelude.{◌≡◌, ℕ, ◌+◌, ◌-◌, max, Bool, false, cond, ◌||◌, List, [], map, length, Some, None, Option, ◌==◌, nat_lt, slice_index_or}
 use Rattle.std.specs.List.{range_with_len, flat_map, fold, list_any}
 use Rattle.table.specs.declared.fault.TableFault.{TableFault}
 use Rattle.table.specs.declared.fault.TableFault.TheVariants.{TooMuchMemory}
@@ -9,10 +9,10 @@ use Rattle.table.specs.declared.node.Lag.{Lag}
 use Rattle.table.specs.declared.node.Node.{Node}
 use Rattle.table.specs.declared.node.UncheckedNode.{UncheckedNode}
 use Rattle.table.specs.Kinds.{past, opens}
-use Rattle.table.specs.Tables.{Table, blank, as_node}
+use Rattle.table.specs.Tables.{Table, as_node}
 use Rattle.table.specs.Lags.{no_lag, greatest_operand}
-use Rattle.table.specs.Places.{operand, most, need}
-use Rattle.table.specs.Refusals.{first, any, parent_of, node_tests, rule_tests, use_tests, first_fault, unknown_kind}
+use Rattle.table.specs.Places.{operand, need}
+use Rattle.table.specs.Refusals.{first, node_tests, rule_tests, use_tests, first_fault, unknown_kind}
 
 abbrev pub of_lists : List Node → List ℕ → Table
 of_lists nodes rules = record { nodes = nodes; rules = rules }
@@ -49,6 +49,7 @@ module _ (lags : List Lag) (k : ℕ) where
       (greatest_operand x.kind (lag_at x.left).worst (lag_at x.right).worst + x.to - opens x.kind side x.from - (lag_at k).best))
       0
 
+  -- and on either side
   abbrev pub by_node : Node → ℕ
   by_node x = max (wanted x Left) (wanted x Right)
 

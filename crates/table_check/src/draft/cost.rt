@@ -1,6 +1,7 @@
 //! What a table costs: the places of each node's queue, the memory that they need, and the most records of a tick.
 ghost use Rattle.std.specs.Prelude.{◌≡◌, ℕ, ◌+◌, ◌-◌, ◌*◌, ◌^◌, ◌<◌, ◌≤◌, length, slice_index, sum};
-ghost use Rattle.table_check.specs.Judging.{of_lists, wanted, by_node, by_nodes, by_rules};
+ghost use Rattle.table_check.specs.Drafts.{of_draft};
+ghost use Rattle.table_check.specs.Judging.{wanted, by_node, by_nodes, by_rules};
 ghost use Rattle.table.specs.Places.{places as places_of, need as need_of, burst as burst_of};
 
 use super::super::lags::lag_at;
@@ -40,9 +41,9 @@ fn memory_for(places: &[u32]) -> u32
 impl Draft<'_> {
     /// What the table costs.
     pub(crate) fn cost(&self) -> Cost
-        ensures places { (k : ℕ) → k < length self.now.nodes.now → slice_index result.places k ≡ places_of (of_lists self.now.nodes.now self.now.rules.now) k }
-        ensures need { result.need ≡ need_of (of_lists self.now.nodes.now self.now.rules.now) }
-        ensures burst { result.burst ≡ burst_of (of_lists self.now.nodes.now self.now.rules.now) }
+        ensures places { (k : ℕ) → k < length self.now.nodes.now → slice_index result.places k ≡ places_of (of_draft self.now) k }
+        ensures need { result.need ≡ need_of (of_draft self.now) }
+        ensures burst { result.burst ≡ burst_of (of_draft self.now) }
     {
         let places = self.all_places();
         let size = self.nodes.len();
@@ -53,9 +54,9 @@ impl Draft<'_> {
         }
     }
 
-    /// How many of its newest positions each node keeps; what a node keeps that is not there is never asked for.
+    /// How many of its newest positions each node keeps. Nothing reads what stands behind the nodes.
     fn all_places(&self) -> [u32; 64]
-        ensures places { (k : ℕ) → k < 64 → slice_index result k ≡ places_of (of_lists self.now.nodes.now self.now.rules.now) k }
+        ensures places { (k : ℕ) → k < 64 → slice_index result k ≡ places_of (of_draft self.now) k }
         ensures few { (k : ℕ) → k < 64 → slice_index result k ≤ 131072 }
     {
         array::from_fn(|k| self.places(k as u8))
@@ -63,7 +64,7 @@ impl Draft<'_> {
 
     /// How many of its newest positions node `k` keeps.
     fn places(&self, k: u8) -> u32
-        ensures places { result ≡ places_of (of_lists self.now.nodes.now self.now.rules.now) k }
+        ensures places { result ≡ places_of (of_draft self.now) k }
         ensures few { result ≤ 131072 }
     {
         1 + self.for_parents(k).max(self.for_rules(k))
@@ -125,7 +126,7 @@ impl Draft<'_> {
 
     /// The most records of one tick.
     fn burst(&self) -> u32
-        ensures { result ≡ burst_of (of_lists self.now.nodes.now self.now.rules.now) }
+        ensures { result ≡ burst_of (of_draft self.now) }
     {
         self.rules
             .iter()

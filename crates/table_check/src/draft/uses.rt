@@ -2,7 +2,8 @@
 ghost use Rattle.std.specs.List.{list_any};
 ghost use Rattle.std.specs.Prelude.{◌≡◌};
 ghost use Rattle.std.specs.Result.{result_err};
-ghost use Rattle.table_check.specs.Judging.{of_lists, use_fault, is_parent};
+ghost use Rattle.table_check.specs.Drafts.{of_draft};
+ghost use Rattle.table_check.specs.Judging.{use_fault, is_parent};
 ghost use Rattle.table.specs.Places.{operand};
 ghost use Rattle.table.specs.Refusals.{used};
 
@@ -48,7 +49,7 @@ impl Draft<'_> {
 
     /// Whether node `k` is an operand, or a rule names it.
     fn is_used(&self, k: u8) -> bool
-        ensures { result ≡ used (of_lists self.now.nodes.now self.now.rules.now) k }
+        ensures { result ≡ used (of_draft self.now) k }
     {
         self.is_parented(k) || self.rules.contains(&k)
     }

@@ -1,4 +1,4 @@
-use Rattle.std.proofs.Common.{◌≡◌, ℕ, ◌<◌, ◌≤◌, get_or, length, sym, ◌∙◌, arith}
+use Rattle.std.proofs.Common.{◌≡◌, ℕ, ◌<◌, get_or, length, ◌∙◌, arith}
 use Rattle.table.specs.Places.{places}
 use Rattle.table_check.specs.Judging.{of_lists}
 use Rattle.table_check.proofs.Costs.{need_small, whole_need}

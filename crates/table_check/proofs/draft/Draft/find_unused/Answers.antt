@@ -1,4 +1,4 @@
-use Rattle.std.proofs.Common.{length, sym, ap, ◌∙◌, not, arith}
+use Rattle.std.proofs.Common.{length, sym, ap, not, arith}
 use Rattle.std.proofs.lemmas.Bool.{cond-true}
 use Rattle.table_check.specs.Judging.{of_lists}
 use Rattle.table.specs.Refusals.{use_tests}

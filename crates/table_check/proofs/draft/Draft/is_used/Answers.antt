@@ -1,4 +1,4 @@
-use Rattle.std.proofs.Common.{eqb, ◌||◌, true, ap, sym, ◌∙◌}
+use Rattle.std.proofs.Common.{eqb, ◌||◌, ap, sym, ◌∙◌}
 use Rattle.std.specs.List.{list_any}
 use Rattle.table_check.proofs.Costs.{used_listed}
 use Rattle.table_check.proofs.draft.Draft.is_used.Goals as goal
