@@ -13,14 +13,6 @@ const SAMPLE: UncheckedNode = UncheckedNode {
     to: 0,
 };
 
-/// A table of these nodes with this rule.
-fn table(heap: Global, nodes: &[UncheckedNode], rule: u16) -> Result<UncheckedTable, AllocError> {
-    Ok(UncheckedTable {
-        nodes: nodes.to_vec(heap)?,
-        rules: vec![in heap; rule]?,
-    })
-}
-
 /// The number and the place of a refusal.
 fn refusal(answer: Result<(), TableFault>) -> Option<(u8, Option<u8>)> {
     match answer {
@@ -36,7 +28,7 @@ fn refused(
     rule: u16,
 ) -> Result<Option<(u8, Option<u8>)>, AllocError> {
     let mut plan = Plan::of_sample_0();
-    Ok(refusal(check(&table(heap, nodes, rule)?, &mut plan)))
+    Ok(refusal(check(&UncheckedTable::new(heap, nodes, &[rule])?, &mut plan)))
 }
 
 /// A sample under a window of a kind, and one more node over that.
@@ -56,6 +48,16 @@ fn windowed(kind: u16, to: u16, over: u16) -> [UncheckedNode; 3] {
         to: 0,
     };
     [SAMPLE, inner, outer]
+}
+
+#[test]
+fn a_table_holds_copies_of_its_nodes_and_rules(rt: HostRuntime) -> Result<(), Fail> {
+    let nodes = windowed(4, 150, 1);
+    let table = UncheckedTable::new(rt.alloc(), &nodes, &[2, 0])?;
+    assert_eq!(rt; table.nodes.len(), 3);
+    assert_eq!(rt; table.nodes[1].to, 150);
+    assert_eq!(rt; table.rules.as_slice(), [2, 0].as_slice());
+    Ok(())
 }
 
 #[test]
@@ -112,12 +114,18 @@ fn there_are_64_nodes_at_most(rt: HostRuntime) -> Result<(), Fail> {
 fn a_refusal_leaves_the_plan(rt: HostRuntime) -> Result<(), Fail> {
     let mut plan = Plan::of_sample_0();
     assert_eq!(rt;
-        refusal(check(&table(rt.alloc(), &[SAMPLE], 1)?, &mut plan)),
+        refusal(check(
+            &UncheckedTable::new(rt.alloc(), &[SAMPLE], &[1])?,
+            &mut plan
+        )),
         Some((18, Some(0)))
     );
     assert_eq!(rt; plan.need(), 3);
     assert_eq!(rt;
-        refusal(check(&table(rt.alloc(), &windowed(4, 150, 1), 2)?, &mut plan)),
+        refusal(check(
+            &UncheckedTable::new(rt.alloc(), &windowed(4, 150, 1), &[2])?,
+            &mut plan
+        )),
         None
     );
     assert_eq!(rt; plan.burst(), 151);

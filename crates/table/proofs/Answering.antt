@@ -63,7 +63,7 @@ checked u = record {
 
 decides_none : (o : Option TableFault) → Decides (not (is_some o)) (o ≡ None)
 decides_none None = (λ e. refl, λ e. refl)
-decides_none (Some f) = (λ e. absurd (false≢true e), λ e. let z : ◌≡◌ {A = ℕ} 0 1 = cc in absurd (omega arith))
+decides_none (Some f) = (λ e. absurd (false≢true e), λ e. cc)
 
 pub passed : Passed
 passed t = record {

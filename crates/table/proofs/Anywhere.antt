@@ -1,13 +1,9 @@
 -- Whether one of some numbers passes. Assumes nothing.
-use Rattle.std.proofs.Common.{◌≡◌, ℕ, zero, suc, ◌<◌, Bool, true, false, Decides, sym, refl, ap, ◌∙◌, ⊎_elim, arith}
-use Rattle.std.proofs.lemmas.Bool.{cases_eq, or_cases, or_from, or_left, or_right, false≢true}
+use Rattle.std.proofs.Common.{◌≡◌, ℕ, zero, suc, ◌<◌, Bool, true, Decides, sym, ap, ◌∙◌, ⊎_elim, arith}
+use Rattle.std.proofs.lemmas.Bool.{cases_eq, or_cases, or_left, or_right, false≢true}
 use Rattle.table.specs.Refusals.{any}
 
-pub any_none : (n : ℕ) (test : ℕ → Bool) → ((j : ℕ) → j < n → test j ≡ false) → any n test ≡ false
-any_none zero test h = refl
-any_none (suc n) test h = or_from _ _ (any_none n test (λ j i. h j (omega arith))) (h n (omega arith))
-
-pub any_some : (n : ℕ) (test : ℕ → Bool) (j : ℕ) → j < n → test j ≡ true → any n test ≡ true
+any_some : (n : ℕ) (test : ℕ → Bool) (j : ℕ) → j < n → test j ≡ true → any n test ≡ true
 any_some zero test j i h = absurd (omega arith)
 any_some (suc n) test j i h =
     ⊎_elim
@@ -15,7 +11,7 @@ any_some (suc n) test j i h =
     (λ ne. or_left _ (test n) (any_some n test j (omega arith) h))
     (cases_eq j n)
 
-pub any_found : (n : ℕ) (test : ℕ → Bool) → any n test ≡ true → (j : ℕ) × (j < n) × (test j ≡ true)
+any_found : (n : ℕ) (test : ℕ → Bool) → any n test ≡ true → (j : ℕ) × (j < n) × (test j ≡ true)
 any_found zero test e = absurd (false≢true e)
 any_found (suc n) test e =
     ⊎_elim

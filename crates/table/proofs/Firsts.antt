@@ -14,7 +14,7 @@ pub none_there : (ts : List Test) → first ts ≡ None → AllByRecursion Absen
 none_there [] e = tt
 none_there (t ∷ ts) e =
     ⊎_elim
-    (λ there. let hit : first (t ∷ ts) ≡ Some t.fault = cond-true _ _ _ there in let z : ◌≡◌ {A = ℕ} 0 1 = cc in absurd (omega arith))
+    (λ there. let hit : first (t ∷ ts) ≡ Some t.fault = cond-true _ _ _ there in cc)
     (λ gone. (gone, none_there ts (sym (cond-false _ _ _ gone) ∙ e)))
     (cases_Bool t.there)
 
@@ -24,7 +24,7 @@ first_absent (t ∷ ts) gone = cond-false _ _ _ gone.0 ∙ first_absent ts gone.
 
 -- what is so of each fault that is there is so of the first
 pub first_holds : (Q : TableFault → Type 0) (f : TableFault) (ts : List Test) → AllByRecursion (λ t. t.there ≡ true → Q t.fault) ts → first ts ≡ Some f → Q f
-first_holds Q f [] all e = let z : ◌≡◌ {A = ℕ} 0 1 = cc in absurd (omega arith)
+first_holds Q f [] all e = cc
 first_holds Q f (t ∷ ts) all e =
     ⊎_elim
     (λ there. let own : Some t.fault ≡ Some f = sym (cond-true _ _ _ there) ∙ e in let same : t.fault ≡ f = cc in subst Q same (all.0 there))
@@ -36,7 +36,7 @@ first_none [] ys e = refl
 first_none (x ∷ xs) ys e = let gone = (none_there (x ∷ xs) e).0 in cond-false _ _ _ gone ∙ first_none xs ys (sym (cond-false _ _ _ gone) ∙ e)
 
 pub first_some : (xs ys : List Test) (f : TableFault) → first xs ≡ Some f → first (xs ++ ys) ≡ Some f
-first_some [] ys f e = let z : ◌≡◌ {A = ℕ} 0 1 = cc in absurd (omega arith)
+first_some [] ys f e = cc
 first_some (x ∷ xs) ys f e =
     ⊎_elim
     (λ there. cond-true _ _ _ there ∙ sym (cond-true _ _ _ there) ∙ e)

@@ -1,6 +1,5 @@
 pub mod Entries
 pub mod Anywhere
-pub mod Tallies
 pub mod Firsts
 pub mod Reflecting
 pub mod Rising

@@ -1,16 +1,21 @@
 -- The kinds of node: their numbers, and which positions of their operands they read. Assumes nothing.
-use Rattle.std.specs.Prelude.{ℕ, ◌+◌, ◌≤◌, Bool, true, false, [], ◌∷◌, slice_index_or}
+use Rattle.std.specs.Prelude.{◌≡◌, ℕ, ◌+◌, ◌<◌, ◌≤◌, Bool, true, false, [], ◌∷◌, Result, MatchResult, slice_index_or}
 use Rattle.table.specs.declared.kind.Kind.{Kind}
 use Rattle.table.specs.declared.kind.Kind.TheVariants.{Sample, Not, And, Or, Within, Always, Until, Once, Held, Since}
 use Rattle.table.specs.declared.kind.Sort.{Sort}
 use Rattle.table.specs.declared.kind.Sort.TheVariants.{Leaf, Point, Ahead, Back}
 use Rattle.table.specs.declared.kind.Side.{Side}
 use Rattle.table.specs.declared.kind.Shape.{Shape}
+use Rattle.table.specs.declared.kind.UnknownKind.{UnknownKind}
 
 -- The kind with each number from 0 to 9. A larger number has none; such a node is refused before anything else is asked
 -- of it, so what stands here for it never matters.
 abbrev pub numbered : ℕ → Kind
 numbered n = slice_index_or (Sample ∷ Not ∷ And ∷ Or ∷ Within ∷ Always ∷ Until ∷ Once ∷ Held ∷ Since ∷ []) n Sample
+
+-- what comes of reading a number as a kind: the kind with this number, or the number itself if no kind has it
+abbrev pub Numbered : ℕ → Result Kind UnknownKind → Type 0
+Numbered n r = MatchResult r (λ k. (n < 10) × (k ≡ numbered n)) (λ e. (e.0 ≡ n) × (10 ≤ n))
 
 abbrev shaped : Sort → (binary turned : Bool) → Shape
 shaped sort binary turned = record { sort = sort; binary = binary; turned = turned }

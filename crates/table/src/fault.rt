@@ -2,8 +2,11 @@
 ghost use Rattle.std.specs.Prelude.{◌≡◌};
 ghost use Rattle.table.specs.Refusals.{refusal_of};
 
+use std::error::Error;
+use std::fmt;
+
 /// Why a table is refused, with the number of the node or rule that is at fault.
-#[derive(Clone, Copy)]
+#[derive(Clone, Copy, Debug)]
 pub enum TableFault {
     /// There is no node, or there are more than 64.
     NodeCount,
@@ -32,6 +35,7 @@ impl TableFault {
     pub fn number(self) -> u8
         ensures { result ≡ (refusal_of self).number }
     {
+        // A variant that holds a place has no number for `as` to read.
         match self {
             TableFault::NodeCount => 11,
             TableFault::RuleCount => 12,
@@ -62,3 +66,31 @@ impl TableFault {
         }
     }
 }
+
+/// What is wrong, after the node or rule that is at fault, if one is.
+impl fmt::Display for TableFault {
+    fn fmt<W: fmt::Write>(&self, f: &mut fmt::Formatter<W>) -> fmt::Result {
+        if let Some(place) = self.place() {
+            let what = if let TableFault::NoSuchNode(_) = self {
+                "rule"
+            } else {
+                "node"
+            };
+            write!(f, "{what} {place} ")?;
+        }
+        f.write_str(match self {
+            TableFault::NodeCount => "there is no node, or there are more than 64",
+            TableFault::RuleCount => "there is no rule, or there are more than 16",
+            TableFault::UnknownKind(_) => "is of no known kind",
+            TableFault::Misplaced(_) => "has an operand or a field that cannot stand there",
+            TableFault::Window(_) => "has a window that opens after it ends, or ends after 4095",
+            TableFault::LateOperand(_) => "looks back over an operand that is not known at once",
+            TableFault::TooLate(_) => "may be known more than 16383 ticks late",
+            TableFault::NoSuchNode(_) => "names no node",
+            TableFault::Unused(_) => "is neither an operand nor named by a rule",
+            TableFault::TooMuchMemory => "the queues need more than 16384 values",
+        })
+    }
+}
+
+impl Error for TableFault {}

@@ -1,6 +1,9 @@
 //! The ten kinds of node, and what there is to know of a kind besides its formula.
-ghost use Rattle.std.specs.Prelude.{◌≡◌, ◌<◌, ◌≤◌, MatchOption};
-ghost use Rattle.table.specs.Kinds.{shape, numbered};
+ghost use Rattle.std.specs.Prelude.{◌≡◌};
+ghost use Rattle.table.specs.Kinds.{shape, Numbered};
+
+use std::error::Error;
+use std::fmt;
 
 /// What a node does with its operands. They are numbered from 0, as they stand here.
 #[derive(Clone, Copy)]
@@ -16,6 +19,10 @@ pub enum Kind {
     Held,
     Since,
 }
+
+/// A number that no kind has.
+#[derive(Clone, Copy, PartialEq, Eq, Debug)]
+pub struct UnknownKind(pub u16);
 
 /// Where a kind reads its operands, seen from the position that is judged.
 #[derive(Clone, Copy, PartialEq, Eq)]
@@ -48,25 +55,6 @@ pub struct Shape {
 }
 
 impl Kind {
-    /// The kind with this number.
-    pub fn from_number(number: u16) -> Option<Kind>
-        ensures { MatchOption result (10 ≤ number) (λ k. (number < 10) × (k ≡ numbered number)) }
-    {
-        match number {
-            0 => Some(Kind::Sample),
-            1 => Some(Kind::Not),
-            2 => Some(Kind::And),
-            3 => Some(Kind::Or),
-            4 => Some(Kind::Within),
-            5 => Some(Kind::Always),
-            6 => Some(Kind::Until),
-            7 => Some(Kind::Once),
-            8 => Some(Kind::Held),
-            9 => Some(Kind::Since),
-            _ => None,
-        }
-    }
-
     pub fn shape(self) -> Shape
         ensures { result ≡ shape self }
     {
@@ -86,3 +74,50 @@ impl Kind {
         }
     }
 }
+
+impl TryFrom<u16> for Kind {
+    type Error = UnknownKind;
+
+    ghost try_from_gives = { Numbered };
+
+    fn try_from(number: u16) -> Result<Self, UnknownKind> {
+        match number {
+            0 => Ok(Kind::Sample),
+            1 => Ok(Kind::Not),
+            2 => Ok(Kind::And),
+            3 => Ok(Kind::Or),
+            4 => Ok(Kind::Within),
+            5 => Ok(Kind::Always),
+            6 => Ok(Kind::Until),
+            7 => Ok(Kind::Once),
+            8 => Ok(Kind::Held),
+            9 => Ok(Kind::Since),
+            _ => Err(UnknownKind(number)),
+        }
+    }
+}
+
+impl fmt::Display for Kind {
+    fn fmt<W: fmt::Write>(&self, f: &mut fmt::Formatter<W>) -> fmt::Result {
+        f.write_str(match self {
+            Kind::Sample => "sample",
+            Kind::Not => "not",
+            Kind::And => "and",
+            Kind::Or => "or",
+            Kind::Within => "within",
+            Kind::Always => "always",
+            Kind::Until => "until",
+            Kind::Once => "once",
+            Kind::Held => "held",
+            Kind::Since => "since",
+        })
+    }
+}
+
+impl fmt::Display for UnknownKind {
+    fn fmt<W: fmt::Write>(&self, f: &mut fmt::Formatter<W>) -> fmt::Result {
+        write!(f, "no kind has number {}", self.0)
+    }
+}
+
+impl Error for UnknownKind {}

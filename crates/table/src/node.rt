@@ -1,5 +1,9 @@
 //! Nodes before and after the check.
-use super::kind::Kind;
+ghost use Rattle.std.specs.Prelude.{◌≡◌, IfOk};
+
+use super::kind::{Kind, Sort};
+use std::alloc::{AllocError, Global};
+use std::fmt;
 
 /// A node as someone wrote it down: nothing is known of its numbers.
 #[derive(Clone, Copy)]
@@ -19,6 +23,23 @@ pub struct UncheckedTable {
     pub rules: Vec<u16>,
 }
 
+impl UncheckedTable {
+    /// The table of copies of these nodes and rules.
+    pub fn new(
+        heap: Global,
+        nodes: &[UncheckedNode],
+        rules: &[u16],
+    ) -> Result<UncheckedTable, AllocError>
+        ensures nodes { IfOk result (λ t. t.nodes.items ≡ nodes.now) }
+        ensures rules { IfOk result (λ t. t.rules.items ≡ rules.now) }
+    {
+        Ok(UncheckedTable {
+            nodes: nodes.to_vec(heap)?,
+            rules: rules.to_vec(heap)?,
+        })
+    }
+}
+
 /// A node of known kind.
 #[derive(Clone, Copy)]
 pub struct Node {
@@ -30,9 +51,31 @@ pub struct Node {
     pub to: u16,
 }
 
+/// The node as it stands in a rule, its operands by their numbers.
+impl fmt::Display for Node {
+    fn fmt<W: fmt::Write>(&self, f: &mut fmt::Formatter<W>) -> fmt::Result {
+        let shape = self.kind.shape();
+        write!(f, "{}", self.kind)?;
+        if let Sort::Ahead | Sort::Back = shape.sort {
+            write!(f, " [{},{}]", self.from, self.to)?;
+        }
+        write!(f, " {}", self.left)?;
+        if shape.binary {
+            write!(f, " {}", self.right)?;
+        }
+        Ok(())
+    }
+}
+
 /// How many ticks after a position a node's value there is known: `best` at the soonest, `worst` at the latest.
 #[derive(Clone, Copy)]
 pub struct Lag {
     pub best: u16,
     pub worst: u16,
+}
+
+impl fmt::Display for Lag {
+    fn fmt<W: fmt::Write>(&self, f: &mut fmt::Formatter<W>) -> fmt::Result {
+        write!(f, "lag {} to {}", self.best, self.worst)
+    }
 }

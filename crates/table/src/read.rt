@@ -14,9 +14,7 @@ pub fn read_node(written: &UncheckedNode, own: u8) -> Result<Node, TableFault>
     ensures node { IfOk result (λ x. x ≡ as_node written.now) }
     ensures window { IfOk result (λ x. (x.from ≤ x.to) × (x.to ≤ 4095)) }
 {
-    let Some(kind) = Kind::from_number(written.kind) else {
-        return Err(TableFault::UnknownKind(own));
-    };
+    let kind = Kind::try_from(written.kind).map_err(|_| TableFault::UnknownKind(own))?;
     let node = Node {
         kind,
         left: written.left,

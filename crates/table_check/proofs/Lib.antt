@@ -1,4 +1,3 @@
-pub mod Filling
 pub mod Nodewise
 pub mod Composing
 pub mod Costs

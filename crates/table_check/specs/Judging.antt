@@ -1,6 +1,6 @@
 -- What the parts of the check find, from the lists that they see. Assumes nothing.
-use Rattle.std.specs.Prelude.{◌≡◌, ℕ, ◌+◌, ◌-◌, max, Bool, false, cond, List, [], map, length, get_or, Some, None, Option, ◌==◌, nat_eq, nat_lt, slice_index, slice_index_or}
-use Rattle.std.specs.List.{range_with_len, flat_map}
+use Rattle.std.specs.Prelude.{◌≡◌, ℕ, ◌+◌, ◌-◌, max, Bool, false, cond, ◌||◌, List, [], map, length, Some, None, Option, ◌==◌, nat_lt, slice_index_or}
+use Rattle.std.specs.List.{range_with_len, flat_map, fold, list_any}
 use Rattle.table.specs.declared.fault.TableFault.{TableFault}
 use Rattle.table.specs.declared.fault.TableFault.TheVariants.{TooMuchMemory}
 use Rattle.table.specs.declared.kind.Side.{Side}
@@ -9,10 +9,10 @@ use Rattle.table.specs.declared.node.Lag.{Lag}
 use Rattle.table.specs.declared.node.Node.{Node}
 use Rattle.table.specs.declared.node.UncheckedNode.{UncheckedNode}
 use Rattle.table.specs.Kinds.{past, opens}
-use Rattle.table.specs.Tables.{Table, blank, as_node}
+use Rattle.table.specs.Tables.{Table, as_node}
 use Rattle.table.specs.Lags.{no_lag, greatest_operand}
-use Rattle.table.specs.Places.{operand, most, need}
-use Rattle.table.specs.Refusals.{first, any, parent_of, node_tests, rule_tests, use_tests, first_fault, unknown_kind}
+use Rattle.table.specs.Places.{operand, need}
+use Rattle.table.specs.Refusals.{first, node_tests, rule_tests, use_tests, first_fault, unknown_kind}
 
 abbrev pub of_lists : List Node → List ℕ → Table
 of_lists nodes rules = record { nodes = nodes; rules = rules }
@@ -29,12 +29,9 @@ node_fault written = first (flat_map (node_tests (unknown_kind written) (of_list
 abbrev pub rule_fault : (size : ℕ) → List ℕ → Option TableFault
 rule_fault size rules = first (flat_map (rule_tests size rules) (range_with_len 0 (length rules)))
 
--- whether node k is an operand, and whether a rule names it
-abbrev pub parented : List Node → ℕ → Bool
-parented nodes k = any (length nodes) (parent_of (of_lists nodes []) k)
-
-abbrev pub named : List ℕ → ℕ → Bool
-named rules k = any (length rules) (λ r. nat_eq (slice_index rules r) k)
+-- whether node k is an operand of node x
+abbrev pub is_parent : (x : Node) (k : ℕ) → Bool
+is_parent x k = operand x Left k || operand x Right k
 
 -- the first node without use
 abbrev pub use_fault : List Node → List ℕ → Option TableFault
@@ -52,24 +49,21 @@ module _ (lags : List Lag) (k : ℕ) where
       (greatest_operand x.kind (lag_at x.left).worst (lag_at x.right).worst + x.to - opens x.kind side x.from - (lag_at k).best))
       0
 
-  abbrev pub by_node : List Node → ℕ → ℕ
-  by_node nodes j = let x = get_or nodes j blank in max (wanted x Left) (wanted x Right)
+  -- and on either side
+  abbrev pub by_node : Node → ℕ
+  by_node x = max (wanted x Left) (wanted x Right)
 
-  -- what a rule wants of it, as far as it names it
-  abbrev pub ruled : List ℕ → ℕ → ℕ
-  ruled rules r = cond (slice_index rules r == k) ((lag_at k).worst - (lag_at k).best) 0
+  -- the most that one of these nodes wants of it
+  abbrev pub by_nodes : List Node → ℕ
+  by_nodes nodes = fold (λ most x. max most (by_node x)) 0 nodes
 
-  -- how many of its newest positions node k keeps
-  abbrev pub kept : List Node → List ℕ → ℕ
-  kept nodes rules = 1 + max (most (length nodes) (by_node nodes)) (most (length rules) (ruled rules))
+  -- what the rules want of it, if one of them names it
+  abbrev pub by_rules : List ℕ → ℕ
+  by_rules rules = cond (list_any (λ r. r == k) rules) ((lag_at k).worst - (lag_at k).best) 0
 
--- what rule r adds to the burst
-abbrev pub bursts : List Lag → List ℕ → ℕ → ℕ
-bursts lags rules r = let lag = get_or lags (slice_index rules r) no_lag in lag.worst - lag.best + 1
-
--- what is at each place of a list
-abbrev pub listed : List ℕ → ℕ → ℕ
-listed xs k = slice_index xs k
+-- what a rule of node k adds to the burst
+abbrev pub bursts : List Lag → (k : ℕ) → ℕ
+bursts lags k = let lag = slice_index_or lags k no_lag in lag.worst - lag.best + 1
 
 -- the first of two findings
 abbrev pub or_else : Option TableFault → Option TableFault → Option TableFault

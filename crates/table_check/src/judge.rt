@@ -2,7 +2,7 @@
 ghost use Rattle.std.specs.Prelude.{◌≡◌, ◌≤◌, length, take, IfOk};
 ghost use Rattle.std.specs.Result.{result_err};
 ghost use Rattle.table_check.specs.Judging.{node_fault, nodes_meant};
-ghost use Rattle.table.specs.Lags.{lags};
+ghost use Rattle.table.specs.Lags.{lags as lags_of};
 
 use super::lags::{AT_ONCE, judge_lag, lag_at};
 use table::fault::TableFault;
@@ -10,11 +10,28 @@ use table::kind::Kind;
 use table::node::{Lag, Node, UncheckedNode};
 use table::read::read_node;
 
-/// Nodes that passed, with their lags.
+/// Nodes that passed, with their lags. They stand first, as many as there are.
 #[derive(Clone, Copy)]
 pub(crate) struct Judged {
     pub nodes: [Node; 64],
     pub lags: [Lag; 64],
+    pub size: usize,
+    ghost few: { size ≤ 64 },
+    ghost lags_are: { take size lags ≡ lags_of (take size nodes) },
+}
+
+impl Judged {
+    pub(crate) fn nodes(&self) -> &[Node]
+        ensures { result.now ≡ take self.now.size self.now.nodes }
+    {
+        &self.nodes[0..self.size]
+    }
+
+    pub(crate) fn lags(&self) -> &[Lag]
+        ensures { result.now ≡ take self.now.size self.now.lags }
+    {
+        &self.lags[0..self.size]
+    }
 }
 
 /// Stands where no node is.
@@ -30,11 +47,12 @@ pub(crate) const BLANK: Node = Node {
 pub(crate) fn judge_nodes(written: &[UncheckedNode]) -> Result<Judged, TableFault>
     requires few { length written.now ≤ 64 }
     ensures fault { result_err result ≡ node_fault written.now }
-    ensures nodes { IfOk result (λ j. take (length written.now) j.nodes ≡ nodes_meant written.now) }
-    ensures lags { IfOk result (λ j. take (length written.now) j.lags ≡ lags (nodes_meant written.now)) }
+    ensures size { IfOk result (λ j. j.size ≡ length written.now) }
+    ensures nodes { IfOk result (λ j. take j.size j.nodes ≡ nodes_meant written.now) }
 {
     let mut nodes = [BLANK; 64];
     let mut lags = [AT_ONCE; 64];
+    // By index, since the lags are looked up while they are filled.
     for (k, one) in written.iter().enumerate() {
         let own = k as u8;
         let node = read_node(one, own)?;
@@ -44,5 +62,9 @@ pub(crate) fn judge_nodes(written: &[UncheckedNode]) -> Result<Judged, TableFaul
         nodes[k] = node;
         lags[k] = lag;
     }
-    Ok(Judged { nodes, lags })
+    Ok(Judged {
+        nodes,
+        lags,
+        size: written.len(),
+    })
 }

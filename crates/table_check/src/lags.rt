@@ -15,13 +15,11 @@ pub(crate) const AT_ONCE: Lag = Lag { best: 0, worst: 0 };
 pub(crate) fn lag_at(lags: &[Lag], k: u16) -> Lag
     ensures { result ≡ slice_index_or lags.now k no_lag }
 {
-    match lags.get(usize::from(k)) {
-        Some(lag) => *lag,
-        None => AT_ONCE,
-    }
+    lags.get(usize::from(k)).copied().unwrap_or(AT_ONCE)
 }
 
 /// The lag of a node from those of its operands, or the first of the faults that come with it.
+#[tactic(auto, unfolding(table::specs::Lags::lag_of))]
 pub(crate) fn judge_lag(node: &Node, own: u8, left: Lag, right: Lag) -> Result<Lag, TableFault>
     requires window { node.now.from ≤ node.now.to }
     requires near { node.now.to ≤ 4095 }

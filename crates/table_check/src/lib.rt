@@ -5,8 +5,8 @@
 //! costs, and what the answer of the check means.
 #![tactic(auto)]
 
+mod draft;
 mod judge;
 mod lags;
-mod places;
 pub mod plan;
 mod rules;

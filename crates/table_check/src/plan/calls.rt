@@ -1,5 +1,6 @@
 //! The check, which fills a plan, and what can be asked of a plan.
 ghost use Rattle.std.specs.Prelude.{◌≡◌, ℕ, ◌<◌, ◌≤◌, [], ◌∷◌, length, take, IfOk, MatchResult, slice_index};
+ghost use Rattle.table_check.specs.Drafts.{drafted};
 ghost use Rattle.std.specs.Result.{result_err};
 ghost use Rattle.table_check.specs.Judging.{of_lists, nodes_meant, found, last_fault, PassedSoFar};
 ghost use Rattle.table.specs.Lags.{lags as lags_of};
@@ -8,10 +9,10 @@ ghost use Rattle.table_check.specs.Plans.{table_of};
 ghost use Rattle.table.specs.Refusals.{checked};
 ghost use Rattle.table.specs.Tables.{blank, size as size_of, meant};
 
+use super::super::draft::{Cost, Draft};
 use super::super::judge::{BLANK, Judged, judge_nodes};
 use super::super::lags::AT_ONCE;
-use super::super::places::{Cost, cost_of};
-use super::super::rules::{find_unused, name_nodes};
+use super::super::rules::{Named, name_nodes};
 use super::Plan;
 use table::fault::TableFault;
 use table::node::{Lag, Node, UncheckedNode, UncheckedTable};
@@ -24,11 +25,15 @@ impl Plan {
         let mut places = [0; 64];
         places[0] = 1;
         Plan {
-            nodes: [BLANK; 64],
-            size: 1,
-            rules: [0; 16],
-            count: 1,
-            lags: [AT_ONCE; 64],
+            judged: Judged {
+                nodes: [BLANK; 64],
+                lags: [AT_ONCE; 64],
+                size: 1,
+            },
+            named: Named {
+                rules: [0; 16],
+                count: 1,
+            },
             places,
             need: 3,
             burst: 1,
@@ -39,14 +44,14 @@ impl Plan {
     pub fn nodes(&self) -> &[Node]
         ensures { result.now ≡ (table_of self.now).nodes }
     {
-        &self.nodes[0..self.size]
+        self.judged.nodes()
     }
 
     /// The rules of the table, each the number of a node.
     pub fn rules(&self) -> &[u8]
         ensures { result.now ≡ (table_of self.now).rules }
     {
-        &self.rules[0..self.count]
+        self.named.rules()
     }
 
     /// A copy of the rules, and how many of its places they fill.
@@ -54,14 +59,14 @@ impl Plan {
         ensures rules { take result.1 result.0 ≡ (table_of self.now).rules }
         ensures few { result.1 ≤ 16 }
     {
-        (self.rules, self.count)
+        (self.named.rules, self.named.count)
     }
 
     /// The lag of each node.
     pub fn lags(&self) -> &[Lag]
         ensures { result.now ≡ lags_of (table_of self.now).nodes }
     {
-        &self.lags[0..self.size]
+        self.judged.lags()
     }
 
     /// How many of its newest positions each node keeps.
@@ -69,7 +74,7 @@ impl Plan {
         ensures len { length result.now ≡ size_of (table_of self.now) }
         ensures places { (k : ℕ) → k < length result.now → slice_index result.now k ≡ places_of (table_of self.now) k }
     {
-        &self.places[0..self.size]
+        &self.places[0..self.judged.size]
     }
 
     /// The queue memory that a monitor of this table needs, in scale values.
@@ -101,46 +106,40 @@ fn plan_of(written: &[UncheckedNode], rules: &[u16]) -> Result<Plan, TableFault>
     ensures fault { result_err result ≡ found written.now rules.now }
     ensures plan { IfOk result (λ p. table_of p ≡ of_lists (nodes_meant written.now) rules.now) }
 {
-    let size = written.len();
-    if size == 0 || size > 64 {
+    if written.is_empty() || written.len() > 64 {
         return Err(TableFault::NodeCount);
     }
-    let count = rules.len();
-    if count == 0 || count > 16 {
+    if rules.is_empty() || rules.len() > 16 {
         return Err(TableFault::RuleCount);
     }
     let judged = judge_nodes(written)?;
-    let named = name_nodes(rules, size)?;
-    finish(judged, size, named, count)
+    let named = name_nodes(rules, written.len())?;
+    finish(judged, named)
 }
 
 /// The plan of nodes and rules that passed so far, or what is still wrong with them: an unused node, or too much memory.
-fn finish(judged: Judged, size: usize, rules: [u8; 16], count: usize) -> Result<Plan, TableFault>
-    requires few { size ≤ 64 }
-    requires ruled { count ≤ 16 }
-    requires whole { length (take size judged.nodes) ≡ size }
-    requires lags { take size judged.lags ≡ lags_of (take size judged.nodes) }
-    requires passed { PassedSoFar (of_lists (take size judged.nodes) (take count rules)) }
-    ensures fault { result_err result ≡ last_fault (of_lists (take size judged.nodes) (take count rules)) }
-    ensures plan { IfOk result (λ p. table_of p ≡ of_lists (take size judged.nodes) (take count rules)) }
+fn finish(judged: Judged, named: Named) -> Result<Plan, TableFault>
+    requires { PassedSoFar (drafted judged named) }
+    ensures fault { result_err result ≡ last_fault (drafted judged named) }
+    ensures plan { IfOk result (λ p. table_of p ≡ drafted judged named) }
 {
-    let Judged { nodes, lags } = judged;
-    find_unused(&nodes[0..size], &rules[0..count])?;
-    let cost = cost_of(&nodes[0..size], &lags[0..size], &rules[0..count]);
+    let draft = Draft {
+        nodes: judged.nodes(),
+        lags: judged.lags(),
+        rules: named.rules(),
+    };
+    draft.find_unused()?;
     let Cost {
         places,
         need,
         burst,
-    } = cost;
+    } = draft.cost();
     if need > 16384 {
         return Err(TableFault::TooMuchMemory);
     }
     Ok(Plan {
-        nodes,
-        size,
-        rules,
-        count,
-        lags,
+        judged,
+        named,
         places,
         need,
         burst,

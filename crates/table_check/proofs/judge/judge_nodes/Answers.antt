@@ -1,7 +1,7 @@
-use Rattle.std.proofs.Common.{◌≡◌, ℕ, ◌+◌, ◌≤◌, get_or, set, sym, ◌∙◌, subst}
+use Rattle.std.proofs.Common.{◌≡◌, ℕ, ◌+◌, ◌≤◌, get_or, set, refl, sym, ap, ◌∙◌, subst}
 use Rattle.std.proofs.lemmas.Result.{err_from_is_err_and}
 use Rattle.table.specs.declared.node.Lag.{Lag}
-use Rattle.table.specs.Lags.{no_lag}
+use Rattle.table.specs.Lags.{no_lag, lags}
 use Rattle.table_check.proofs.Nodewise.{Judging, seen, own_decide, judging_start, judging_step, judging_stops, judging_ends, judged_nodes, judged_lags}
 use Rattle.table_check.proofs.judge.judge_nodes.Goals as goal
 
@@ -14,8 +14,8 @@ returns-in_err-node c =
     let found = own_decide c.args.written.now c.loop-k.k c.loop-k-test.true c.in_err-node.field-0.0 (sym c.in_err-node.ensures.fault) in
     rw (p.1, p.2) record {
       fault = sym (judging_stops _ _ _ _ c.loop-k.invariant c.requires.few c.loop-k-test.true _ found);
+      size = tt;
       nodes = tt;
-      lags = tt;
     }
 
 pub judge_lag-requires : goal.judge_lag-requires
@@ -36,8 +36,8 @@ returns-in_err-lag c =
     let found = (seen _ _ _ _ c.loop-k.invariant c.requires.few c.loop-k-test.true _ _ _ own.node c.lag_at-left.ensures c.lag_at-right.ensures).1 own.fault ∙ sym c.in_err-lag.ensures.fault in
     rw (p.1, p.2) record {
       fault = sym (judging_stops _ _ _ _ c.loop-k.invariant c.requires.few c.loop-k-test.true _ found);
+      size = tt;
       nodes = tt;
-      lags = tt;
     }
 
 pub loop-k-preserved : goal.loop-k-preserved
@@ -51,6 +51,14 @@ loop-k-preserved c =
 pub returns : goal.returns
 returns c = record {
   fault = sym (judging_ends _ _ _ _ c.loop-k.invariant c.requires.few c.loop-k-test.false);
+  size = refl;
   nodes = judged_nodes _ _ _ _ c.loop-k.invariant c.requires.few c.loop-k-test.false;
-  lags = judged_lags _ _ _ _ c.loop-k.invariant c.requires.few c.loop-k-test.false;
+}
+
+pub invariant_of-result : goal.invariant_of-result
+invariant_of-result c = record {
+  few = c.requires.few;
+  lags_are =
+      judged_lags _ _ _ _ c.loop-k.invariant c.requires.few c.loop-k-test.false
+      ∙ sym (ap lags (judged_nodes _ _ _ _ c.loop-k.invariant c.requires.few c.loop-k-test.false));
 }

@@ -11,13 +11,13 @@ only P h zero i = h
 only P h (suc k) i = absurd (omega arith)
 
 pub invariant_of-result : goal.invariant_of-result
+unfolding each after lag_of lags
+invariant_of-result c = record { few = lit≤ tt; lags_are = refl }
+
+pub invariant_of-result-3 : goal.invariant_of-result-3
 unfolding first_fault after each lag_of lags places need burst
-invariant_of-result c = record {
-  few = lit≤ tt;
-  ruled = lit≤ tt;
+invariant_of-result-3 c = record {
   passed = refl;
-  best_is = only _ refl;
-  worst_is = only _ refl;
   places_are = only _ refl;
   need_is = refl;
   burst_is = refl;
