@@ -3,7 +3,7 @@ use Rattle.std.proofs.Common.{◌≡◌, ℕ, ◌+◌, ◌-◌, ◌<◌, ◌≤�
 use Rattle.std.proofs.lemmas.List.{length-drop, length_push, length-set, nil_from_length, set_past}
 use Rattle.queue.specs.declared.Ring.{Ring}
 use Rattle.queue.specs.Contents.{Fits, newest}
-use Rattle.queue.specs.Items.{items, lent, next_slot}
+use Rattle.queue.specs.Items.{items, lent, next_slot, SameLoan}
 use Rattle.queue.proofs.Contents.{length_contents}
 use Rattle.queue.proofs.Newest.{newest_push, newest_none}
 
@@ -24,7 +24,7 @@ pub record Room {T : Type 0} (was mid : Ring T) : Type 0 where
   pub items : items mid ≡ drop (length (items was) + 1 - length (lent was)) (items was)
   pub slots : lent mid ≡ lent was
   pub next : next_slot mid ≡ next_slot was
-  pub lends : mid.slots.ghost_name ≡ was.slots.ghost_name
+  pub lends : SameLoan was mid
 
 module _ {T : Type 0} (was mid : Ring T) where
   abbrev cap : ℕ

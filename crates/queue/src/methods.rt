@@ -2,7 +2,7 @@
 ghost use Rattle.std.specs.Prelude.{◌≡◌, ℕ, ◌+◌, ◌-◌, ◌<◌, ◌≤◌, List, [], ◌∷◌, ◌++◌, length, MatchBool, MatchOption, MatchResult, slice_set};
 ghost use Rattle.std.specs.List.{slice_get};
 ghost use Rattle.queue.specs.Contents.{contents, slot_at, Fits, newest};
-ghost use Rattle.queue.specs.Items.{items, lent, next_slot};
+ghost use Rattle.queue.specs.Items.{items, lent, next_slot, SameLoan};
 
 use super::{Full, Misfit, Ring, Stand};
 
@@ -45,7 +45,7 @@ impl<'a, T: Copy> Ring<'a, T> {
     pub fn resume(&mut self, at: Stand) -> Result<(), Misfit>
         ensures stand { MatchResult result (λ _. Fits (length (lent self.old)) at × (self.new.at ≡ at)) (λ _. (Fits (length (lent self.old)) at → ⊥) × (self.new ≡ self.old)) }
         ensures slots { lent self.new ≡ lent self.old }
-        ensures lends { self.new.slots.ghost_name ≡ self.old.slots.ghost_name }
+        ensures lends { SameLoan self.old self.new }
     {
         if !at.fits(self.slots.len()) {
             return Err(Misfit);
@@ -105,7 +105,7 @@ impl<'a, T: Copy> Ring<'a, T> {
     pub fn push(&mut self, x: T) -> Result<(), Full>
         ensures items { MatchResult result (λ _. items self.new ≡ items self.old ++ x ∷ []) (λ _. (length (items self.old) ≡ length (lent self.old)) × (self.new ≡ self.old)) }
         ensures slots { MatchResult result (λ _. lent self.new ≡ slice_set (lent self.old) (next_slot self.old) x) (λ _. lent self.new ≡ lent self.old) }
-        ensures lends { self.new.slots.ghost_name ≡ self.old.slots.ghost_name }
+        ensures lends { SameLoan self.old self.new }
     {
         let at = self.at;
         let cap = self.slots.len();
@@ -125,7 +125,7 @@ impl<'a, T: Copy> Ring<'a, T> {
         ensures items { MatchOption result ((items self.old ≡ []) × (self.new ≡ self.old)) (λ x. items self.old ≡ x ∷ items self.new) }
         ensures slots { lent self.new ≡ lent self.old }
         ensures next { next_slot self.new ≡ next_slot self.old }
-        ensures lends { self.new.slots.ghost_name ≡ self.old.slots.ghost_name }
+        ensures lends { SameLoan self.old self.new }
     {
         let at = self.at;
         if at.len == 0 {
@@ -143,7 +143,7 @@ impl<'a, T: Copy> Ring<'a, T> {
     pub fn keep(&mut self, x: T)
         ensures items { items self.new ≡ newest (length (lent self.old)) (items self.old ++ x ∷ []) }
         ensures slots { lent self.new ≡ slice_set (lent self.old) (next_slot self.old) x }
-        ensures lends { self.new.slots.ghost_name ≡ self.old.slots.ghost_name }
+        ensures lends { SameLoan self.old self.new }
     {
         let full = self.free() == 0;
         if full {
