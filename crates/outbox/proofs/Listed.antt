@@ -1,6 +1,6 @@
 -- Records put one after another from a list, and taken one after another into one. Assumes nothing.
-use Rattle.std.proofs.Common.{◌≡◌, ℕ, ◌+◌, ◌<◌, ◌≤◌, min, List, [], ◌∷◌, ◌++◌, length, get_or, take, drop, set, sym, ap, ◌∙◌, arith}
-use Rattle.std.proofs.lemmas.List.{append_assoc, append-nil, drop_all, drop_more, length-drop, length-take-le, set_at, take_all, take_more}
+use Rattle.std.proofs.Common.{◌≡◌, ℕ, ◌+◌, ◌<◌, ◌≤◌, List, [], ◌∷◌, ◌++◌, length, get_or, take, drop, set, sym, ap, ◌∙◌, arith}
+use Rattle.std.proofs.lemmas.List.{append_assoc, drop_more, length-drop, length-take-le, set_at, take_more}
 
 module _ {X : Type 0} where
   -- i of `before` were taken, and x is the next
@@ -24,10 +24,3 @@ module _ {X : Type 0} where
         ∙ set_at (take i before) (get_or start i x) rest x i (length-take-le i before (omega (arith, one_there)))
         ∙ sym (append_assoc (take i before) (x ∷ []) rest)
         ∙ ap (λ ys. ys ++ rest) (sym one_more)
-
-  -- all of xs were put where nothing waited, and all that waited was taken
-  pub back : (before now xs places after : List X) (free n : ℕ) → before ≡ [] → length xs ≤ free → length places ≡ length xs → now ≡ before ++ take free xs → n ≡ min (length now) (length places) → after ≡ take n now ++ drop n places → after ≡ xs
-  back before now xs places after free n none room long put taken held =
-      let all : now ≡ xs = put ∙ ap (λ ys. ys ++ take free xs) none ∙ take_all free xs room in
-      let many : n ≡ length xs = omega (arith, taken, ap length all, long) in
-      held ∙ ap (λ ys. take n ys ++ drop n places) all ∙ ap (λ ys. ys ++ drop n places) (take_all n xs (omega arith)) ∙ ap (λ ys. xs ++ ys) (drop_all n places (omega arith)) ∙ append-nil xs

@@ -1,7 +1,7 @@
 -- What a queue in one region of a memory gains, and what all other regions keep. Assumes nothing.
-use Rattle.std.proofs.Common.{◌≡◌, ℕ, zero, suc, ◌+◌, ◌-◌, ◌≤◌, List, [], ◌∷◌, ◌++◌, length, get_or, take, drop, set, Ok, Err, Result, unwrap_or, sym, refl, ap, ◌∙◌, subst, ⊎_elim, arith, MatchResult}
+use Rattle.std.proofs.Common.{◌≡◌, ℕ, ◌+◌, ◌-◌, ◌≤◌, List, [], ◌∷◌, ◌++◌, length, take, drop, set, Ok, Err, Result, sym, ap, ◌∙◌, subst, ⊎_elim, arith, MatchResult}
 use borrow.Rule.Slice.PartMut.{put_mid}
-use Rattle.std.specs.List.{slice_get, between}
+use Rattle.std.specs.List.{between}
 use Rattle.std.proofs.lemmas.List.Edits.{length-between}
 use Rattle.std.proofs.lemmas.List.{take-take, take-set, drop-drop, drop-set-lt, take-append-drop}
 use Rattle.std.proofs.lemmas.Slice.{between_is, between-put_mid, take-put_mid_below, drop-put_mid}
@@ -38,12 +38,6 @@ held_apart m m' from to at next x a b other is apart =
 -- a queue holds as many as its stand says
 pub length_held : {X : Type 0} (m : List X) (from to : ℕ) (at : Stand) → Stands (length m) from to at → length (held m from to at) ≡ at.len
 length_held m from to at stands = length_contents (between from to m) at (subst (λ n. Fits n at) (sym (length-between m from to stands.inside)) stands.fits)
-
--- what is read of a list, or else a value of the reader's own
-pub nth_or : {X : Type 0} (xs : List X) (i : ℕ) (d : X) → unwrap_or (slice_get xs i) d ≡ get_or xs i d
-nth_or [] i d = refl
-nth_or (x ∷ xs) zero d = refl
-nth_or (x ∷ xs) (suc i) d = nth_or xs i d
 
 -- The region from..to of a memory m holds the slots ys now, and in them the queue has gained x.
 module _ {X : Type 0} (m ys : List X) (from to : ℕ) (at : Stand) (x : X) (ordered : from ≤ to) (inside : to ≤ length m) where
