@@ -12,8 +12,9 @@ loop-x-init g c =
 
 pub loop-x-preserved : goal.loop-x-preserved
 loop-x-preserved g c =
-    let told = c.in-Ok.ensures in
     let before = held c.args.memory.now c.args.from c.args.to c.args.at ++ take c.loop-x.x-index c.args.values.now in
-    let kept = ap (λ d. d.held) told.memory in
+    let stand = rw c.unwrap-at.ensures at c.keep_at.ensures.stand in
+    let memory = rw c.unwrap-at.ensures at c.keep_at.ensures.memory in
+    let kept = ap (λ d. d.held) memory in
     let joined = newest_append (c.args.to - c.args.from) before (c.x-item.result ∷ []) in
-    (subst (λ size. Stands size c.args.from c.args.to c.in-Ok.next) (sym c.keep_at.auto.memory) told.stand.1, grind (arith, common_steps, kept, joined))
+    (subst (λ size. Stands size c.args.from c.args.to c.unwrap-at.result) (sym c.keep_at.auto.memory) stand.1, grind (arith, common_steps, kept, joined))
