@@ -71,10 +71,3 @@ module _ {X : Type 0} (m ys : List X) (from to : ℕ) (at : Stand) (x : X) (orde
         let holding = held_now next ∙ kept ∙ ap (λ n. newest n (contents part at ++ x ∷ [])) size in
         (λ i. record { before = before_kept i; held = holding i; behind = behind_kept i })
     kept_memory (Err e) same = put_back same
-
-  stands_so : (s : Stand) → Fits (length part) s → Stands (length m) from to s
-  stands_so s fits = record { ordered = ordered; inside = inside; fits = subst (λ n. Fits n s) size fits }
-
-  pub kept_stand : {E : Type 0} (r : Result Stand E) → MatchResult r (λ next. Fits (length part) at × Fits (length part) next) (λ _. Fits (length part) at → ⊥) → MatchResult r (λ next. Stands (length m) from to at × Stands (length m) from to next) (λ _. Stands (length m) from to at → ⊥)
-  kept_stand (Ok next) both = (stands_so at both.0, stands_so next both.1)
-  kept_stand (Err e) misfit = λ stands. misfit (subst (λ n. Fits n at) (sym size) stands.fits)
