@@ -1,10 +1,10 @@
 -- What a queue in one region of a memory gains, and what all other regions keep. Assumes nothing.
-use Rattle.std.proofs.Common.{◌≡◌, ℕ, ◌+◌, ◌-◌, ◌≤◌, List, [], ◌∷◌, ◌++◌, length, take, drop, set, Ok, Err, Result, sym, ap, ◌∙◌, subst, ⊎_elim, arith, MatchResult}
+use Rattle.std.proofs.Common.{◌≡◌, ℕ, ◌+◌, ◌-◌, ◌≤◌, List, [], ◌∷◌, ◌++◌, length, take, drop, set, Ok, Err, Result, sym, ap, ◌∙◌, subst, ⊎_elim, arith, rules, MatchResult}
 use borrow.Rule.Slice.PartMut.{put_mid}
 use Rattle.std.specs.List.{between}
 use Rattle.std.proofs.lemmas.List.Edits.{length-between}
 use Rattle.std.proofs.lemmas.List.{take-take, take-set, drop-drop, drop-set-lt, take-append-drop}
-use Rattle.std.proofs.lemmas.Slice.{between_is, between-put_mid, take-put_mid_below, drop-put_mid}
+use Rattle.std.proofs.lemmas.Slice.{between_is, between-put_mid, overwrites}
 use Rattle.queue.specs.declared.Stand.{Stand}
 use Rattle.queue.specs.Contents.{contents, newest, Fits}
 use Rattle.queue.specs.Regions.{held, Stands, divided, gained, Apart}
@@ -58,10 +58,10 @@ module _ {X : Type 0} (m ys : List X) (from to : ℕ) (at : Stand) (x : X) (orde
 
   module _ (long : length ys ≡ length part) where
     before_kept : take from now ≡ take from m
-    before_kept = take-put_mid_below from cap m ys from (omega arith) (omega arith)
+    before_kept = search (rules, overwrites)
 
     behind_kept : drop to now ≡ drop to m
-    behind_kept = drop-put_mid from cap m ys to (omega arith) (omega arith) (long ∙ size)
+    behind_kept = grind (arith, overwrites, size)
 
     held_now : (next : Stand) → held now from to next ≡ contents ys next
     held_now next = ap (λ s. contents s next) (between-put_mid from cap m ys to (omega arith) (long ∙ size))
