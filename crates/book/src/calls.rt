@@ -49,12 +49,11 @@ impl<'a, V: Readable> Outbox<V> for Book<'a, V> {
         ensures put { MatchResult result (λ _. ever_put self.new ≡ ever_put self.old + 1) (λ _. ever_put self.new ≡ ever_put self.old) }
         ensures lends { SameLoan self.old self.new }
     {
-        let count = self.count;
-        if count == self.bytes.len() / 16 {
+        if self.count == self.bytes.len() / 16 {
             return Err(PutFault::Full);
         }
         self.write(stored(record));
-        self.count = count + 1;
+        self.count += 1;
         Ok(())
     }
 
@@ -66,12 +65,11 @@ impl<'a, V: Readable> Outbox<V> for Book<'a, V> {
         ensures put { ever_put self.new ≡ ever_put self.old }
         ensures lends { SameLoan self.old self.new }
     {
-        let taken = self.taken;
-        if taken == self.count {
+        if self.taken == self.count {
             return Err(TakeFault::Empty);
         }
         let oldest = self.oldest();
-        self.taken = taken + 1;
+        self.taken += 1;
         Ok(oldest)
     }
 }
