@@ -10,7 +10,7 @@ use Rattle.book.proofs.Paged.{length_with_page, records_push}
 
 -- `bytes` became `after`: page `count` is what was made of the record x
 module _ {V : Type 0} (coded : V → ℕ) (bytes after page : List ℕ) (count : ℕ) (x : Record V) (made : page ≡ stored coded x) (written : after ≡ with_page bytes count page) where
-  pub entered : after ≡ with_page bytes count (stored coded x)
+  entered : after ≡ with_page bytes count (stored coded x)
   entered = written ∙ ap (with_page bytes count) made
 
   pub as_long : 16 * count + 16 ≤ length bytes → length after ≡ length bytes

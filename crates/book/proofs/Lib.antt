@@ -1,3 +1,4 @@
 mod Booked
 mod Formed
 mod Paged
+mod Pieces

@@ -1,20 +1,17 @@
--- A page of a book written, and the records on its pages: none, the first, and one more. Assumes nothing.
-use Rattle.std.proofs.Common.{◌≡◌, ℕ, zero, suc, ◌+◌, ◌-◌, ◌*◌, ◌<◌, ◌≤◌, List, [], ◌∷◌, ◌++◌, map, length, get_or, take, drop, set, sym, refl, ap, ◌∙◌, arith}
-use lib.Seq.{paste}
+-- The pages of a book, one of them written, and the records on its pages: none, the first, and one more. Assumes nothing.
+use Rattle.std.proofs.Common.{◌≡◌, ℕ, zero, suc, ◌+◌, ◌-◌, ◌*◌, ◌<◌, ◌≤◌, List, [], ◌∷◌, ◌++◌, map, length, get_or, take, drop, sym, refl, ap, ◌∙◌, arith}
 use Rattle.std.specs.List.{range_with_len}
+use Rattle.std.specs.Simd.{first_chunks}
 use Rattle.std.proofs.lemmas.List.FromFn.{map-range_with_len_more}
-use Rattle.std.proofs.lemmas.List.Edits.{paste_more, paste_all}
 use Rattle.std.proofs.lemmas.List.{length-append, length-take, length-drop, length-take-le, take_at, take-take, take-append-le, drop_at, drop-take}
 use Rattle.record.specs.declared.Record.{Record}
 use Rattle.book.specs.Format.{restored}
 use Rattle.book.specs.Pages.{page_at, with_page, records}
+use Rattle.book.proofs.Pieces.{piece}
 
--- a page is written byte by byte: the first i of them stand
-pub page_more : (bytes page held : List ℕ) (from i : ℕ) → held ≡ paste bytes from page i → from + i < length bytes → i < length page → set held (from + i) (get_or page i 0) ≡ paste bytes from page (i + 1)
-page_more bytes page held from i so_far inside more = ap (λ b. set b (from + i) (get_or page i 0)) so_far ∙ paste_more bytes from page i 0 inside more
-
-pub page_all : (bytes page held : List ℕ) (n i : ℕ) → held ≡ paste bytes (16 * n) page i → i ≡ 16 → length page ≡ 16 → held ≡ with_page bytes n page
-page_all bytes page held n i so_far all sixteen = so_far ∙ ap (paste bytes (16 * n) page) all ∙ paste_all bytes (16 * n) page 16 (sym sixteen)
+-- bytes cut into sixteens are cut into their pages
+pub page_in : (bytes d : List ℕ) (count i : ℕ) → i < count → get_or (first_chunks 16 count bytes) i d ≡ page_at bytes i
+page_in bytes d count i = piece 16 count bytes i d
 
 module _ (bytes page : List ℕ) (n : ℕ) (inside : 16 * n + 16 ≤ length bytes) (sixteen : length page ≡ 16) where
   front : length (take (16 * n) bytes) ≡ 16 * n

@@ -1,5 +1,5 @@
 -- A book by its bytes. Assumes nothing.
-use Rattle.std.specs.Prelude.{ℕ, ◌-◌, ◌/◌, List, length, Option}
+use Rattle.std.specs.Prelude.{◌≡◌, ℕ, ◌-◌, ◌/◌, List, length, Option}
 use Rattle.scale.specs.Order.{Scale}
 use Rattle.record.specs.declared.Record.{Record}
 use Rattle.book.specs.declared.Book.{Book}
@@ -21,3 +21,7 @@ pages_free b = length (lent b) / 16 - ever_put b
 -- the records put and not yet taken, read from their pages
 abbrev pub waiting_in : {V : Type 0} → Scale V → (ℕ → Option V) → Book V → List (Record V)
 waiting_in scale decoded b = records (value_of scale decoded) (lent b) b.taken (ever_put b)
+
+-- the bytes are lent to it still: what the newer holds in them is what their owner finds there
+abbrev pub SameLoan : {V : Type 0} → Book V → Book V → Type 0
+SameLoan old new = new.bytes.ghost_name ≡ old.bytes.ghost_name

@@ -1,5 +1,5 @@
 //! A record in 16 bytes, and back.
-ghost use Rattle.std.specs.Prelude.{◌≡◌, length};
+ghost use Rattle.std.specs.Prelude.{◌≡◌};
 ghost use Rattle.book.specs.Format.{stored, restored, value_of};
 
 use super::reading::Readable;
@@ -7,6 +7,7 @@ use record::Record;
 use scale::Scale;
 
 /// The 16 bytes of a record: rule, a zero byte, the code of its value, first, last and lag, each with its big end first.
+#[tactic(auto, unfolding(crate::specs::Format::stored))]
 pub fn stored<V: Scale>(record: &Record<V>) -> [u8; 16]
     ensures { result ≡ stored V.coded «record».now }
 {
@@ -27,18 +28,19 @@ pub fn stored<V: Scale>(record: &Record<V>) -> [u8; 16]
 }
 
 /// The record in these 16 bytes.
-pub(crate) fn restored<V: Readable>(page: &[u8]) -> Record<V>
-    requires { length page.now ≡ 16 }
+#[tactic(auto, using(crate::proofs::Formed::value_read, crate::proofs::Pieces::byte_in))]
+pub(crate) fn restored<V: Readable>(page: &[u8; 16]) -> Record<V>
     ensures { result ≡ restored (value_of V.Scale.scale V.decoded) page.now }
 {
-    let code = u16::from_be_bytes([page[2], page[3]]);
-    // A stored code always has its value; the lowest stands for a code that no record was stored with.
-    let value = V::decode(code).unwrap_or(V::lowest());
+    // Rule, zero byte and code together are 4 bytes, as first, last and lag are each.
+    let (fours, _) = page.as_chunks::<4>();
+    let [rule, _, c0, c1] = fours[0];
     Record {
-        rule: page[0],
-        first: u32::from_be_bytes([page[4], page[5], page[6], page[7]]),
-        last: u32::from_be_bytes([page[8], page[9], page[10], page[11]]),
-        value,
-        lag: u32::from_be_bytes([page[12], page[13], page[14], page[15]]),
+        rule,
+        first: u32::from_be_bytes(fours[1]),
+        last: u32::from_be_bytes(fours[2]),
+        // A stored code always has its value; the lowest stands for a code that no record was stored with.
+        value: V::decode(u16::from_be_bytes([c0, c1])).unwrap_or(V::lowest()),
+        lag: u32::from_be_bytes(fours[3]),
     }
 }

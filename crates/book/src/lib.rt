@@ -4,13 +4,14 @@
 //! scale that names the value of each code (`reading`). Read `specs/Books.antt` first, then `specs/Format.antt`.
 #![tactic(auto)]
 
+mod calls;
 pub mod format;
+mod page;
 pub mod reading;
 
 ghost use Rattle.std.specs.Prelude.{ℕ, ◌*◌, ◌≤◌, length};
 
-mod calls;
-mod page;
+use std::marker::PhantomData;
 
 /// Records in the bytes that it is lent, one on each page of 16. Page after page is written, none a second time, so that
 /// the bytes tell all records ever put, taken or not.
@@ -21,8 +22,8 @@ pub struct Book<'a, V> {
     count: usize,
     /// How many of them were taken.
     taken: usize,
-    /// Names the scale of its records, and is empty.
-    scale: &'a [V],
+    /// The scale of its records.
+    scale: PhantomData<V>,
     ghost room: { 16 * count ≤ length bytes.now },
     ghost order: { taken ≤ count },
 }

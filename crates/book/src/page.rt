@@ -1,6 +1,6 @@
 //! The pages of a book, a record on each.
 ghost use Rattle.std.specs.Prelude.{◌≡◌, ℕ, ◌+◌, ◌*◌, ◌<◌, ◌≤◌, length};
-ghost use Rattle.book.specs.Books.{lent, ever_put};
+ghost use Rattle.book.specs.Books.{lent, ever_put, SameLoan};
 ghost use Rattle.book.specs.Format.{restored, value_of};
 ghost use Rattle.book.specs.Pages.{page_at, with_page};
 
@@ -16,21 +16,20 @@ impl<'a, V: Readable> Book<'a, V> {
         ensures bytes { lent self.new ≡ with_page (lent self.old) (ever_put self.old) page }
         ensures put { ever_put self.new ≡ ever_put self.old }
         ensures taken { self.new.taken ≡ self.old.taken }
-        ensures lends { self.new.bytes.ghost_name ≡ self.old.bytes.ghost_name }
+        ensures lends { SameLoan self.old self.new }
     {
         let from = 16 * self.count;
-        for i in 0..16 {
-            self.bytes[from + i] = page[i];
-        }
+        let to = from + 16;
+        self.bytes[from..to].copy_from_slice(&page);
     }
 
     /// The record on the page after those of all records taken.
+    #[tactic(auto, using(crate::proofs::Paged::page_in))]
     pub(crate) fn oldest(&self) -> Record<V>
         requires { self.now.taken < ever_put self.now }
         ensures { result ≡ restored (value_of V.Scale.scale V.decoded) (page_at (lent self.now) self.now.taken) }
     {
-        let from = 16 * self.taken;
-        let to = from + 16;
-        restored(&self.bytes[from..to])
+        let (pages, _) = self.bytes.as_chunks();
+        restored(&pages[self.taken])
     }
 }

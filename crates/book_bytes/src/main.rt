@@ -56,16 +56,17 @@ fn fill<V: Readable>(rt: &HostRuntime, bytes: &mut [u8], records: &[Record<V>]) 
     println!(rt; "room for {}", book.room())
 }
 
-fn show(rt: &HostRuntime, bytes: &[u8]) -> io::Result<()> {
-    for (i, b) in bytes.iter().enumerate() {
-        let gap = match i % 16 {
-            0 if i == 0 => "",
-            0 => "\n",
-            _ => " ",
-        };
+/// The bytes of one line, with a blank between two.
+fn show_line(rt: &HostRuntime, line: &[u8]) -> io::Result<()> {
+    for (i, b) in line.iter().enumerate() {
+        let gap = if i == 0 { "" } else { " " };
         print!(rt; "{gap}{b:02x}")?;
     }
     rt.println("")
+}
+
+fn show(rt: &HostRuntime, bytes: &[u8]) -> io::Result<()> {
+    bytes.chunks(16).try_for_each(|line| show_line(rt, line))
 }
 
 fn main(rt: HostRuntime) -> io::Result<()> {

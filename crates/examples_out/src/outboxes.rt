@@ -20,10 +20,7 @@ fn put_first(bytes: &mut [u8], record: &Record<YesNo>) -> Result<(), PutFault>
     ensures { MatchResult result (λ _. bytes.new ≡ with_page bytes.old 0 (stored yes_no_code «record».now)) (λ _. (length bytes.old < 16) × (bytes.new ≡ bytes.old)) }
 {
     let mut book = Book::new(bytes);
-    match book.put(record) {
-        Ok(()) => Ok(()),
-        Err(fault) => Err(fault),
-    }
+    book.put(record)
 }
 
 /// Whatever the outbox, what was put comes back in the order in which it was put.

@@ -31,10 +31,7 @@ fn keep_all<T: Copy>(memory: &mut [T], from: usize, to: usize, mut at: Stand, va
     ensures held { held memory.new from to result ≡ newest (to - from) (held memory.old from to at ++ values.now) }
 {
     for x in values {
-        match keep_at(memory, from, to, at, *x) {
-            Ok(next) => at = next,
-            Err(_) => unreachable(),
-        }
+        at = keep_at(memory, from, to, at, *x).unwrap();
     }
     at
 }

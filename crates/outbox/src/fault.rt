@@ -6,14 +6,14 @@ ghost use Rattle.outbox.specs.Refusals.{put_refusal, take_refusal};
 #[derive(Clone, Copy, PartialEq, Eq, Debug)]
 pub enum PutFault {
     /// Nothing is free.
-    Full,
+    Full = 62,
 }
 
 /// Why no record is taken.
 #[derive(Clone, Copy, PartialEq, Eq, Debug)]
 pub enum TakeFault {
     /// Nothing waits.
-    Empty,
+    Empty = 61,
 }
 
 impl PutFault {
@@ -21,9 +21,7 @@ impl PutFault {
     pub fn number(self) -> u8
         ensures { result ≡ put_refusal self }
     {
-        match self {
-            PutFault::Full => 62,
-        }
+        self as u8
     }
 }
 
@@ -32,8 +30,6 @@ impl TakeFault {
     pub fn number(self) -> u8
         ensures { result ≡ take_refusal self }
     {
-        match self {
-            TakeFault::Empty => 61,
-        }
+        self as u8
     }
 }

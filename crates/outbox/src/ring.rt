@@ -1,6 +1,6 @@
 //! The outbox in a list of records that it is lent: a queue of records.
 ghost use Rattle.std.specs.Prelude.{◌≡◌, ℕ, ◌+◌, IfOk, MatchResult, slice_set};
-ghost use Rattle.queue.specs.Items.{items, lent, next_slot};
+ghost use Rattle.queue.specs.Items.{items, lent, next_slot, SameLoan};
 ghost use Rattle.outbox.specs.Meaning.{Puts, Takes};
 ghost use Rattle.outbox.specs.Rings.{slots_free};
 
@@ -20,26 +20,22 @@ impl<'a, V: Copy> Outbox<V> for Ring<'a, Record<V>> {
         self.free()
     }
 
+    #[tactic(auto, using(crate::proofs::Queued::one_less_free))]
     fn put(&mut self, record: &Record<V>) -> Result<(), PutFault>
         ensures outbox { Puts items slots_free self.old self.new «record».now result }
         ensures slots { MatchResult result (λ _. lent self.new ≡ slice_set (lent self.old) (next_slot self.old) «record».now) (λ _. lent self.new ≡ lent self.old) }
-        ensures lends { self.new.slots.ghost_name ≡ self.old.slots.ghost_name }
+        ensures lends { SameLoan self.old self.new }
     {
-        match self.push(*record) {
-            Ok(()) => Ok(()),
-            Err(_) => Err(PutFault::Full),
-        }
+        self.push(*record).map_err(|_| PutFault::Full)
     }
 
+    #[tactic(auto, using(crate::proofs::Queued::one_more_free))]
     fn take(&mut self) -> Result<Record<V>, TakeFault>
         ensures outbox { Takes items slots_free self.old self.new result }
         ensures freed { IfOk result (λ _. slots_free self.new ≡ slots_free self.old + 1) }
         ensures slots { lent self.new ≡ lent self.old }
-        ensures lends { self.new.slots.ghost_name ≡ self.old.slots.ghost_name }
+        ensures lends { SameLoan self.old self.new }
     {
-        match self.pop() {
-            Some(oldest) => Ok(oldest),
-            None => Err(TakeFault::Empty),
-        }
+        self.pop().ok_or(TakeFault::Empty)
     }
 }

@@ -29,11 +29,11 @@ pub fn take_all<V: Scale, O: Outbox<V>>(outbox: &mut O, places: &mut [Record<V>]
     ensures waiting { O.Outbox.waiting outbox.new ≡ drop result (O.Outbox.waiting outbox.old) }
     ensures free { O.Outbox.free outbox.old ≤ O.Outbox.free outbox.new }
 {
-    for i in 0..places.len() {
-        match outbox.take() {
-            Ok(oldest) => places[i] = oldest,
-            Err(_) => return i,
-        }
+    for (i, place) in places.iter_mut().enumerate() {
+        let Ok(oldest) = outbox.take() else {
+            return i;
+        };
+        *place = oldest;
     }
     places.len()
 }

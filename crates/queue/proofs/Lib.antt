@@ -1,5 +1,5 @@
 pub mod Contents
 pub mod Newest
 pub mod Regions
-mod Rings
+pub mod Rings
 mod Turned

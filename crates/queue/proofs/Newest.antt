@@ -1,5 +1,5 @@
 -- The newest of a list: how many, which, and what they are after more came. Assumes nothing.
-use Rattle.std.proofs.Common.{◌≡◌, ℕ, ◌+◌, ◌-◌, ◌<◌, ◌≤◌, min, List, [], ◌∷◌, ◌++◌, length, get_or, drop, sym, ap, ◌∙◌, arith}
+use Rattle.std.proofs.Common.{◌≡◌, ℕ, ◌+◌, ◌-◌, ◌≤◌, min, List, [], ◌∷◌, ◌++◌, length, get_or, drop, sym, ap, ◌∙◌, arith}
 use Rattle.std.proofs.lemmas.List.{length-drop, length_push, length-append, get_or-drop, drop-drop, drop_all, drop-append-le}
 use Rattle.queue.specs.Contents.{newest}
 
@@ -17,13 +17,6 @@ module _ {X : Type 0} (n : ℕ) (xs : List X) where
   unfolding newest
   newest_all short = let none : length xs - n ≡ 0 = omega arith in ap (λ k. drop k xs) none
 
-  -- one more: at most one of the old ones has to go for it
-  pub newest_push : (x : X) → 0 < n → newest n (xs ++ x ∷ []) ≡ drop (length xs + 1 - n) xs ++ x ∷ []
-  unfolding newest
-  newest_push x some =
-      let gone : length (xs ++ x ∷ []) - n ≡ length xs + 1 - n = omega (arith, length_push xs x) in
-      ap (λ k. drop k (xs ++ x ∷ [])) gone ∙ drop-append-le (length xs + 1 - n) xs (x ∷ []) (omega arith)
-
   -- to keep the newest as they come is to keep the newest of all that came
   pub newest_append : (ys : List X) → newest n (newest n xs ++ ys) ≡ newest n (xs ++ ys)
   unfolding newest
@@ -34,6 +27,11 @@ module _ {X : Type 0} (n : ℕ) (xs : List X) where
       let size : length left ≡ length (xs ++ ys) - k = ap length (sym joined) ∙ length-drop k (xs ++ ys) in
       let gone : k + (length left - n) ≡ length (xs ++ ys) - n = omega (arith, size, length-append xs ys) in
       ap (drop (length left - n)) (sym joined) ∙ drop-drop (length left - n) k (xs ++ ys) ∙ ap (λ j. drop j (xs ++ ys)) gone
+
+-- one more than there is room for: the oldest goes
+pub newest_next : {X : Type 0} (n : ℕ) (y x : X) (ys : List X) → length (y ∷ ys) ≡ n → newest n ((y ∷ ys) ++ x ∷ []) ≡ ys ++ x ∷ []
+unfolding newest
+newest_next n y x ys full = let one : length ((y ∷ ys) ++ x ∷ []) - n ≡ 1 = omega (arith, length_push (y ∷ ys) x) in ap (λ k. drop k ((y ∷ ys) ++ x ∷ [])) one
 
 -- to keep none
 pub newest_none : {X : Type 0} (xs : List X) → newest 0 xs ≡ []

@@ -1,10 +1,10 @@
 -- What a queue in one region of a memory gains, and what all other regions keep. Assumes nothing.
-use Rattle.std.proofs.Common.{◌≡◌, ℕ, zero, suc, ◌+◌, ◌-◌, ◌≤◌, List, [], ◌∷◌, ◌++◌, length, get_or, take, drop, set, Ok, Err, Result, unwrap_or, sym, refl, ap, ◌∙◌, subst, ⊎_elim, arith, MatchResult}
+use Rattle.std.proofs.Common.{◌≡◌, ℕ, ◌+◌, ◌-◌, ◌≤◌, List, [], ◌∷◌, ◌++◌, length, take, drop, set, Ok, Err, Result, sym, ap, ◌∙◌, subst, ⊎_elim, arith, rules, MatchResult}
 use borrow.Rule.Slice.PartMut.{put_mid}
-use Rattle.std.specs.List.{slice_get, between}
+use Rattle.std.specs.List.{between}
 use Rattle.std.proofs.lemmas.List.Edits.{length-between}
 use Rattle.std.proofs.lemmas.List.{take-take, take-set, drop-drop, drop-set-lt, take-append-drop}
-use Rattle.std.proofs.lemmas.Slice.{between_is, between-put_mid, take-put_mid_below, drop-put_mid}
+use Rattle.std.proofs.lemmas.Slice.{between_is, between-put_mid, overwrites}
 use Rattle.queue.specs.declared.Stand.{Stand}
 use Rattle.queue.specs.Contents.{contents, newest, Fits}
 use Rattle.queue.specs.Regions.{held, Stands, divided, gained, Apart}
@@ -39,12 +39,6 @@ held_apart m m' from to at next x a b other is apart =
 pub length_held : {X : Type 0} (m : List X) (from to : ℕ) (at : Stand) → Stands (length m) from to at → length (held m from to at) ≡ at.len
 length_held m from to at stands = length_contents (between from to m) at (subst (λ n. Fits n at) (sym (length-between m from to stands.inside)) stands.fits)
 
--- what is read of a list, or else a value of the reader's own
-pub nth_or : {X : Type 0} (xs : List X) (i : ℕ) (d : X) → unwrap_or (slice_get xs i) d ≡ get_or xs i d
-nth_or [] i d = refl
-nth_or (x ∷ xs) zero d = refl
-nth_or (x ∷ xs) (suc i) d = nth_or xs i d
-
 -- The region from..to of a memory m holds the slots ys now, and in them the queue has gained x.
 module _ {X : Type 0} (m ys : List X) (from to : ℕ) (at : Stand) (x : X) (ordered : from ≤ to) (inside : to ≤ length m) where
   abbrev part : List X
@@ -64,10 +58,10 @@ module _ {X : Type 0} (m ys : List X) (from to : ℕ) (at : Stand) (x : X) (orde
 
   module _ (long : length ys ≡ length part) where
     before_kept : take from now ≡ take from m
-    before_kept = take-put_mid_below from cap m ys from (omega arith) (omega arith)
+    before_kept = search (rules, overwrites)
 
     behind_kept : drop to now ≡ drop to m
-    behind_kept = drop-put_mid from cap m ys to (omega arith) (omega arith) (long ∙ size)
+    behind_kept = grind (arith, overwrites, size)
 
     held_now : (next : Stand) → held now from to next ≡ contents ys next
     held_now next = ap (λ s. contents s next) (between-put_mid from cap m ys to (omega arith) (long ∙ size))
@@ -77,10 +71,3 @@ module _ {X : Type 0} (m ys : List X) (from to : ℕ) (at : Stand) (x : X) (orde
         let holding = held_now next ∙ kept ∙ ap (λ n. newest n (contents part at ++ x ∷ [])) size in
         (λ i. record { before = before_kept i; held = holding i; behind = behind_kept i })
     kept_memory (Err e) same = put_back same
-
-  stands_so : (s : Stand) → Fits (length part) s → Stands (length m) from to s
-  stands_so s fits = record { ordered = ordered; inside = inside; fits = subst (λ n. Fits n s) size fits }
-
-  pub kept_stand : {E : Type 0} (r : Result Stand E) → MatchResult r (λ next. Fits (length part) at × Fits (length part) next) (λ _. Fits (length part) at → ⊥) → MatchResult r (λ next. Stands (length m) from to at × Stands (length m) from to next) (λ _. Stands (length m) from to at → ⊥)
-  kept_stand (Ok next) both = (stands_so at both.0, stands_so next both.1)
-  kept_stand (Err e) misfit = λ stands. misfit (subst (λ n. Fits n at) (sym size) stands.fits)

@@ -1,8 +1,10 @@
 -- The slots read round once, from one of them on. Assumes nothing.
 use Rattle.std.proofs.Common.{◌≡◌, ℕ, ◌+◌, ◌-◌, ◌<◌, ◌≤◌, List, [], ◌∷◌, ◌++◌, length, get_or, take, drop, set, sym, ap, ◌∙◌, ⊎_elim, arith}
 use lib.Seq.{take-set-lt}
-use Rattle.std.proofs.lemmas.List.{length-append, length-drop, length-take, get_or_append_left, get_or-append_right, get_or-drop, get_or-take, set-append_left, set-append_right, drop-set-add, drop-set-lt, take-set-le, take_more, drop_more, append_assoc, append-nil, take_all, drop_all}
+use Rattle.std.proofs.lemmas.List.{length-append, length-drop, length-take, set-append_left, set-append_right, drop-set-add, drop-set-lt, take-set-le, take_more, drop_more, append_assoc, append-nil, take_all, drop_all}
 use Rattle.std.proofs.lemmas.Bool.{cases_lt, lt-ltb, le-ltb, cond-true, cond-false}
+use Rattle.std.proofs.lemmas.Bool.Decides.{nat_tests}
+use Rattle.std.proofs.lemmas.List.{places}
 use Rattle.queue.specs.Contents.{slot_at}
 
 -- the two ways to a slot: before the end, and round it
@@ -39,12 +41,8 @@ module _ {X : Type 0} (slots : List X) (head : ℕ) where
     slot_back far = slot_far n head i far ∙ omega arith
 
     pub getD_turned : get_or (turned slots head) i x ≡ get_or slots (slot_at n head i) x
-    unfolding turned
-    getD_turned =
-        ⊎_elim
-        (λ near. rw (slot_near n head i near) (get_or_append_left (drop head slots) (take head slots) x i (omega (arith, front)) ∙ get_or-drop head slots i x))
-        (λ far. rw (slot_back far) (get_or-append_right (drop head slots) (take head slots) (n - head) i x front (omega arith) ∙ get_or-take head slots back x (omega arith)))
-        (cases_lt (head + i) n)
+    unfolding turned slot_at
+    getD_turned = grind (arith, nat_tests, places)
 
     pub turned_set : turned (set slots (slot_at n head i) x) head ≡ set (turned slots head) i x
     unfolding turned

@@ -14,11 +14,11 @@ ghost use Rattle.std.specs.Prelude.{◌<◌, ◌≤◌, max, length};
 pub use memory::{keep_at, read_at};
 
 /// Every slot is taken.
-#[derive(Clone, Copy)]
+#[derive(Clone, Copy, PartialEq, Eq, Debug)]
 pub struct Full;
 
 /// The stand does not fit the slots, or the region does not lie in the memory.
-#[derive(Clone, Copy)]
+#[derive(Clone, Copy, PartialEq, Eq, Debug)]
 pub struct Misfit;
 
 /// Where a queue stands in its slots: the slot of its oldest element, and how many elements it holds.

@@ -19,6 +19,7 @@ fn keep_in<T: Copy>(slots: &mut [T], at: Stand, x: T) -> Result<Stand, Misfit>
 
 /// One more element in the queue that stands so in this region; in a full queue the oldest makes room for it. It answers
 /// where the queue stands then. A region that does not lie in the memory, or a stand that does not fit it, is refused.
+#[tactic(auto, using(crate::proofs::Regions::kept_memory))]
 pub fn keep_at<T: Copy>(
     memory: &mut [T],
     from: usize,
@@ -29,6 +30,7 @@ pub fn keep_at<T: Copy>(
     ensures stand { MatchResult result (λ next. Stands (length memory.old) from to at × Stands (length memory.old) from to next) (λ _. Stands (length memory.old) from to at → ⊥) }
     ensures memory { MatchResult result (λ next. divided memory.new from to next ≡ gained (to - from) (divided memory.old from to at) x) (λ _. memory.new ≡ memory.old) }
 {
+    // A test and no `get_mut`: after one, a proof knows no element of the memory.
     if from > to || to > memory.len() {
         return Err(Misfit);
     }
@@ -41,8 +43,9 @@ pub fn read_at<T: Copy>(memory: &[T], from: usize, to: usize, at: Stand, i: usiz
     ensures read { Stands (length memory.now) from to at → result ≡ slice_get (held memory.now from to at) i }
     ensures misfit { (Stands (length memory.now) from to at → ⊥) → result ≡ None }
 {
-    if from > to || to > memory.len() || !at.fits(to - from) {
+    let slots = memory.get(from..to)?;
+    if !at.fits(slots.len()) {
         return None;
     }
-    Ring::read(&memory[from..to], at, i)
+    Ring::read(slots, at, i)
 }

@@ -2,11 +2,12 @@
 ghost use Rattle.std.specs.Prelude.{◌≡◌, ℕ, ◌+◌, ◌-◌, ◌<◌, ◌≤◌, List, [], ◌∷◌, ◌++◌, length, MatchBool, MatchOption, MatchResult, slice_set};
 ghost use Rattle.std.specs.List.{slice_get};
 ghost use Rattle.queue.specs.Contents.{contents, slot_at, Fits, newest};
-ghost use Rattle.queue.specs.Items.{items, lent, next_slot};
+ghost use Rattle.queue.specs.Items.{items, lent, next_slot, SameLoan};
 
 use super::{Full, Misfit, Ring, Stand};
 
 /// The slot that comes `i` slots after `head`, going round.
+#[tactic(auto, unfolding(crate::specs::Contents::slot_at))]
 fn slot(cap: usize, head: usize, i: usize) -> usize
     requires head { head < cap }
     requires round { i ≤ cap }
@@ -29,6 +30,7 @@ impl Stand {
 
 impl<'a, T: Copy> Ring<'a, T> {
     /// An empty queue in these slots, which stay as they are.
+    #[tactic(auto, using(crate::proofs::Contents::contents_none))]
     pub fn new(slots: &'a mut [T]) -> Ring<'a, T>
         ensures items { items result ≡ [] }
         ensures slots { lent result ≡ slots.old }
@@ -45,7 +47,7 @@ impl<'a, T: Copy> Ring<'a, T> {
     pub fn resume(&mut self, at: Stand) -> Result<(), Misfit>
         ensures stand { MatchResult result (λ _. Fits (length (lent self.old)) at × (self.new.at ≡ at)) (λ _. (Fits (length (lent self.old)) at → ⊥) × (self.new ≡ self.old)) }
         ensures slots { lent self.new ≡ lent self.old }
-        ensures lends { self.new.slots.ghost_name ≡ self.old.slots.ghost_name }
+        ensures lends { SameLoan self.old self.new }
     {
         if !at.fits(self.slots.len()) {
             return Err(Misfit);
@@ -63,6 +65,7 @@ impl<'a, T: Copy> Ring<'a, T> {
     }
 
     /// How many elements it holds.
+    #[tactic(auto, using(crate::proofs::Rings::length_items))]
     pub fn len(&self) -> usize
         ensures { result ≡ length (items self.now) }
     {
@@ -77,6 +80,7 @@ impl<'a, T: Copy> Ring<'a, T> {
     }
 
     /// How many more elements it can hold.
+    #[tactic(auto, using(crate::proofs::Rings::items_fit))]
     pub fn free(&self) -> usize
         ensures { result + length (items self.now) ≡ length (lent self.now) }
     {
@@ -84,6 +88,7 @@ impl<'a, T: Copy> Ring<'a, T> {
     }
 
     /// The i-th oldest element of the queue that stands so in these slots. To read takes no more than a shared loan.
+    #[tactic(auto, using(crate::proofs::Contents::nth_contents, crate::proofs::Contents::nth_contents_past))]
     pub(crate) fn read(slots: &[T], at: Stand, i: usize) -> Option<T>
         requires { Fits (length slots.now) at }
         ensures { result ≡ slice_get (contents slots.now at) i }
@@ -102,10 +107,11 @@ impl<'a, T: Copy> Ring<'a, T> {
     }
 
     /// One more element, after the newest. A full queue refuses it and stays as it is.
+    #[tactic(auto, using(crate::proofs::Rings::length_items, crate::proofs::Contents::contents_push))]
     pub fn push(&mut self, x: T) -> Result<(), Full>
         ensures items { MatchResult result (λ _. items self.new ≡ items self.old ++ x ∷ []) (λ _. (length (items self.old) ≡ length (lent self.old)) × (self.new ≡ self.old)) }
         ensures slots { MatchResult result (λ _. lent self.new ≡ slice_set (lent self.old) (next_slot self.old) x) (λ _. lent self.new ≡ lent self.old) }
-        ensures lends { self.new.slots.ghost_name ≡ self.old.slots.ghost_name }
+        ensures lends { SameLoan self.old self.new }
     {
         let at = self.at;
         let cap = self.slots.len();
@@ -121,11 +127,12 @@ impl<'a, T: Copy> Ring<'a, T> {
     }
 
     /// The oldest element, which leaves the queue.
+    #[tactic(auto, using(crate::proofs::Contents::contents_none, crate::proofs::Contents::contents_pop, crate::proofs::Contents::slot_after_pop))]
     pub fn pop(&mut self) -> Option<T>
         ensures items { MatchOption result ((items self.old ≡ []) × (self.new ≡ self.old)) (λ x. items self.old ≡ x ∷ items self.new) }
         ensures slots { lent self.new ≡ lent self.old }
         ensures next { next_slot self.new ≡ next_slot self.old }
-        ensures lends { self.new.slots.ghost_name ≡ self.old.slots.ghost_name }
+        ensures lends { SameLoan self.old self.new }
     {
         let at = self.at;
         if at.len == 0 {
@@ -143,7 +150,7 @@ impl<'a, T: Copy> Ring<'a, T> {
     pub fn keep(&mut self, x: T)
         ensures items { items self.new ≡ newest (length (lent self.old)) (items self.old ++ x ∷ []) }
         ensures slots { lent self.new ≡ slice_set (lent self.old) (next_slot self.old) x }
-        ensures lends { self.new.slots.ghost_name ≡ self.old.slots.ghost_name }
+        ensures lends { SameLoan self.old self.new }
     {
         let full = self.free() == 0;
         if full {

@@ -1,5 +1,5 @@
 use Rattle.std.proofs.Common.{◌<◌, get_or, unwrap_or, sym, ap, ◌∙◌, arith}
-use Rattle.queue.proofs.Regions.{nth_or}
+use Rattle.std.proofs.lemmas.Option.{unwrap_or-slice_get}
 use Rattle.settling.proofs.Twice.{seen_in}
 use Rattle.engine.specs.Kept.{values_in, value_in}
 use Rattle.engine.proofs.keep.read.Goals as goal
@@ -14,7 +14,7 @@ returns g c =
       read = λ stands.
           c.unwrap_or.ensures
           ∙ ap (λ o. unwrap_or o a.other) (c.read_at.ensures.read stands)
-          ∙ nth_or held _ a.other
+          ∙ unwrap_or-slice_get held _ a.other
           ∙ ap (λ i. get_or held i a.other) (omega (arith, c.saturating_sub.ensures, c.saturating_sub-older.ensures))
           ∙ sym (seen_in a.other q.count (value_in a.other a.memory.now q) a.position settled);
       misfit = λ not. c.unwrap_or.ensures ∙ ap (λ o. unwrap_or o a.other) (c.read_at.ensures.misfit not);

@@ -3,7 +3,10 @@ use Rattle.outbox.proofs.several.take_all.Given as goal
 
 abbrev pub invariant-loop-i : goal.invariant-loop-i
 invariant-loop-i g l =
-    (l.i ≤ length (g.O.Outbox.waiting l.initial.outbox))
-    × (g.O.Outbox.waiting l.outbox ≡ drop l.i (g.O.Outbox.waiting l.initial.outbox))
-    × (l.places ≡ take l.i (g.O.Outbox.waiting l.initial.outbox) ++ drop l.i l.initial.places)
-    × (g.O.Outbox.free l.initial.outbox ≤ g.O.Outbox.free l.outbox)
+    let waiting = g.O.Outbox.waiting in
+    record {
+      within : l.i ≤ length (waiting l.initial.outbox);
+      left : waiting l.outbox ≡ drop l.i (waiting l.initial.outbox);
+      places : l.places ≡ take l.i (waiting l.initial.outbox) ++ drop l.i l.initial.places;
+      free : g.O.Outbox.free l.initial.outbox ≤ g.O.Outbox.free l.outbox;
+    }
