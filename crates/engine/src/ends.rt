@@ -97,12 +97,11 @@ pub(crate) fn ends_all<V: Scale>(nodes: &[Node], n: usize, memory: &mut [V], kee
     ensures queues { StillAt V.Scale.scale nodes.now (suc n) memory.old memory.new keeps.now }
     ensures stored { EndsStored V.Scale.scale nodes.now n memory.old memory.new keeps.now }
 {
-    for k in 0..nodes.len() {
-        let node = nodes[k];
+    for (k, node) in nodes.iter().enumerate() {
         let own = keep_of(keeps, k);
-        let left = operand_of(keeps, node, k, node.left);
-        let right = operand_of(keeps, node, k, node.right);
-        let ends = ends_of(memory, node, own, left, right, n);
+        let left = operand_of(keeps, *node, k, node.left);
+        let right = operand_of(keeps, *node, k, node.right);
+        let ends = ends_of(memory, *node, own, left, right, n);
         store(memory, own.to, ends);
     }
 }

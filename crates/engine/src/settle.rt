@@ -77,9 +77,9 @@ fn settle_later<V: Scale>(
     ensures { Settles V.Scale.scale sample memory.old memory.new node own result left right n }
 {
     let mut keep = own;
-    while keep.count <= n {
-        let low = work_out(sample, memory, node, left, right, keep.count, V::lowest());
-        let high = work_out(sample, memory, node, left, right, keep.count, V::highest());
+    for i in own.count..n + 1 {
+        let low = work_out(sample, memory, node, left, right, i, V::lowest());
+        let high = work_out(sample, memory, node, left, right, i, V::highest());
         if !agree(low, high) {
             break;
         }

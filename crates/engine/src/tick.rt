@@ -15,10 +15,9 @@ use table::node::Node;
 fn sample_at<S: Source>(source: &S, n: usize, sample: u16) -> S::Value
     ensures { result ≡ sample_in S.Value.Scale.scale (answer S.layer (S.frames source.now) n sample) }
 {
-    match source.ask(n, usize::from(sample)) {
-        Ok(value) => value,
-        Err(_) => <S::Value>::lowest(),
-    }
+    source
+        .ask(n, usize::from(sample))
+        .unwrap_or(<S::Value>::lowest())
 }
 
 /// The sample of a node at tick `n`; a node that is no sample has none.
@@ -46,13 +45,12 @@ pub(crate) fn settle_all<V: Scale, S: Source<Value = V>>(
     ensures others { OthersKept keeps.old (length nodes.now) memory.old memory.new }
     ensures next { TakenOn V.Scale.scale (answer S.layer (S.frames source.now) n) nodes.now n memory.old memory.new keeps.old keeps.new }
 {
-    for k in 0..nodes.len() {
-        let node = nodes[k];
-        let sample = sample_of(source, n, node);
+    for (k, node) in nodes.iter().enumerate() {
+        let sample = sample_of(source, n, *node);
         let own = keep_of(keeps, k);
-        let left = operand_of(keeps, node, k, node.left);
-        let right = operand_of(keeps, node, k, node.right);
-        keeps[k] = settle(sample, memory, node, own, left, right, n);
+        let left = operand_of(keeps, *node, k, node.left);
+        let right = operand_of(keeps, *node, k, node.right);
+        keeps[k] = settle(sample, memory, *node, own, left, right, n);
     }
 }
 

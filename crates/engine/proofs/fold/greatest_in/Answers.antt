@@ -1,7 +1,7 @@
 use Rattle.std.proofs.Common.{refl, arith}
 use Rattle.scale.proofs.Bounding.{bounds}
 use Rattle.engine.specs.Kept.{reading}
-use Rattle.engine.proofs.Folding.{greatest_begun, greatest_on, greatest_done}
+use Rattle.engine.proofs.Folding.{greatest_begun, greatest_on}
 use Rattle.engine.proofs.fold.greatest_in.Goals as goal
 
 pub loop-p-init : goal.loop-p-init
@@ -12,6 +12,3 @@ loop-p-preserved g c = (
   greatest_on (bounds _ g.met.V.Scale.order) (reading c.args.other c.args.memory.now c.args.keep) c.args.a c.loop-p.p _ _ _ c.loop-p.auto.p c.loop-p.invariant.0 (c.read.ensures.read c.requires) c.greater-most.ensures,
   λ h. omega (arith, c.loop-p.invariant.1 h, c.loop-p-test.true),
 )
-
-pub returns : goal.returns
-returns g c = greatest_done (bounds _ g.met.V.Scale.order) (reading c.args.other c.args.memory.now c.args.keep) c.args.a c.args.b c.loop-p.p _ c.loop-p.auto.p-end c.loop-p.invariant.1 c.loop-p-test.false c.loop-p.invariant.0

@@ -1,7 +1,6 @@
-use Rattle.std.proofs.Common.{◌≡◌, ◌+◌, min, sym, ap, ◌∙◌, arith}
+use Rattle.std.proofs.Common.{◌+◌, min, sym, ap, ◌∙◌, arith}
 use Rattle.scale.proofs.Bounding.{bounds}
 use Rattle.settling.proofs.Folds.{greatest_none}
-use Rattle.table.specs.Values.{greatest}
 use Rattle.engine.specs.Kept.{reading}
 use Rattle.engine.specs.Working.{since_at}
 use Rattle.engine.proofs.Folding.{since_begun, since_on}
@@ -19,8 +18,3 @@ loop-j-preserved g c =
 -- no window: the position is before its opening
 pub returns-then-i-from : goal.returns-then-i-from
 returns-then-i-from g c = c.lowest-most.ensures ∙ sym (greatest_none (bounds _ g.met.V.Scale.order) (since_at g.V.Scale.scale (reading c.args.other c.args.memory.now c.args.left) (reading c.args.other c.args.memory.now c.args.right) c.args.i) c.args.from (min c.args.to c.args.i + 1) (omega (arith, c.if-i-from.true)))
-
-pub returns : goal.returns
-returns g c =
-    let end : c.loop-j.j ≡ min c.args.to c.args.i + 1 = omega (arith, c.loop-j-test.false, c.loop-j.auto.j-end, c.requires.window, c.min-j-end.ensures, c.if-i-from.false) in
-    c.loop-j.invariant.best ∙ ap (λ j. greatest g.V.Scale.scale c.args.from j (since_at g.V.Scale.scale (reading c.args.other c.args.memory.now c.args.left) (reading c.args.other c.args.memory.now c.args.right) c.args.i)) end

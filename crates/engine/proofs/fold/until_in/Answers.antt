@@ -1,8 +1,6 @@
-use Rattle.std.proofs.Common.{◌≡◌, ◌+◌, ap, ◌∙◌, arith}
+use Rattle.std.proofs.Common.{ap, ◌∙◌}
 use Rattle.scale.proofs.Bounding.{bounds}
-use Rattle.table.specs.Values.{greatest}
 use Rattle.engine.specs.Kept.{reading}
-use Rattle.engine.specs.Working.{until_at}
 use Rattle.engine.proofs.Folding.{until_begun, until_on}
 use Rattle.engine.proofs.fold.until_in.Goals as goal
 
@@ -14,8 +12,3 @@ loop-j-preserved g c =
     let s = g.V.Scale.scale in
     until_on (bounds _ g.met.V.Scale.order) (reading c.args.other c.args.memory.now c.args.left) (reading c.args.other c.args.memory.now c.args.right) c.args.i c.args.from c.loop-j.j _ _ _ _ _ _ c.loop-j.auto.j c.loop-j.invariant
     (c.lesser.ensures ∙ ap (λ x. s.lesser x c.loop-j.run) (c.read.ensures.read c.requires.right)) c.greater-most.ensures (c.read-in-loop-j.ensures.read c.requires.left) c.lesser-run.ensures
-
-pub returns : goal.returns
-returns g c =
-    let end : c.loop-j.j ≡ c.args.to + 1 = omega (arith, c.loop-j-test.false, c.loop-j.auto.j-end, c.requires.window) in
-    c.loop-j.invariant.best ∙ ap (λ j. greatest g.V.Scale.scale c.args.from j (until_at g.V.Scale.scale (reading c.args.other c.args.memory.now c.args.left) (reading c.args.other c.args.memory.now c.args.right) c.args.i c.args.from)) end
