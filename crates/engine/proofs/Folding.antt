@@ -1,10 +1,40 @@
 -- Loops over a range of positions: where they begin, one turn, and where they end. Assumes nothing.
-use Rattle.std.proofs.Common.{◌≡◌, ℕ, suc, ◌+◌, ◌-◌, ◌≤◌, sym, ap, ◌∙◌, ap₂, ⊎_elim, add-one, arith}
-use Rattle.std.proofs.lemmas.Bool.{cases_lt}
+use Rattle.std.proofs.Common.{◌≡◌, ℕ, zero, suc, [], ◌∷◌, ◌++◌, fold, add-zero, add-suc, ◌+◌, ◌-◌, ◌≤◌, sym, ap, ◌∙◌, ap₂, add-one, arith}
+use Rattle.std.proofs.lemmas.List.Sums.{fold_push}
+use Rattle.std.proofs.lemmas.Fn.{fold_over}
+use Rattle.std.proofs.iter.Yields.{nat_range_steps, Range-gives}
+use Rattle.std.specs.Iterator.{FoldsItems}
+use Rattle.std.specs.List.{range_with_len}
+use Rattle.std.specs.declared.ops.Range.{Range}
+use denote.Param.Members.{Mut, Called}
 use Rattle.scale.specs.Order.{Scale, Lattice}
 use Rattle.table.specs.Values.{greatest, least}
 use Rattle.settling.proofs.Folds.{greatest_none, least_none, greatest_next, least_next, least_front}
 use Rattle.engine.specs.Working.{until_at, since_at}
+
+range_more : (a n : ℕ) → range_with_len a (suc n) ≡ range_with_len a n ++ (a + n) ∷ []
+range_more a zero = ap (λ b. b ∷ []) (sym (add-zero a))
+range_more a (suc n) = ap (λ l. a ∷ l) (range_more (a + 1) n ∙ ap (λ b. range_with_len (a + 1) n ++ b ∷ []) (omega arith))
+
+-- what joins one position after the other makes of a range what it makes of nothing, and of one position more
+module _ {V : Type 0} (join : V → ℕ → V) (a : ℕ) (up_to : ℕ → V) (more : (b : ℕ) → a ≤ b → up_to (suc b) ≡ join (up_to b) b) where
+  positions_joined : (n : ℕ) → fold join (up_to a) (range_with_len a n) ≡ up_to (a + n)
+  positions_joined zero = ap up_to (sym (add-zero a))
+  positions_joined (suc n) =
+      ap (fold join (up_to a)) (range_more a n)
+      ∙ fold_push join (up_to a) (range_with_len a n) (a + n)
+      ∙ ap (λ v. join v (a + n)) (positions_joined n)
+      ∙ sym (more (a + n) (omega arith))
+      ∙ ap up_to (sym (add-suc a n))
+
+-- so does a fold over the range, whose closure joins a position and changes nothing that it holds
+module _ {F V : Type 0} (g : Mut F (V × (ℕ × Unit {0})) V) (f : F) (join : V → ℕ → V) (one : (m : V) (p : ℕ) (n : V) (f' : F) → Called g f (m, (p, tt)) n f' → (n ≡ join m p) × (f' ≡ f)) where
+  pub range_folded : (range : Range ℕ) (init r : V) → FoldsItems nat_range_steps g range f init r → (up_to : ℕ → V) → init ≡ up_to range.start → ((b : ℕ) → range.start ≤ b → up_to (suc b) ≡ join (up_to b) b) → r ≡ up_to (range.start + (range.end - range.start))
+  range_folded range init r ran up_to begins more =
+      fold_over nat_range_steps (λ p. p) g (λ ps v. v ≡ fold join (up_to range.start) ps) f
+      (λ ps m p n f' so_far call. ((one m p n f' call).0 ∙ ap (λ v. join v p) so_far ∙ sym (fold_push join (up_to range.start) ps p), (one m p n f' call).1))
+      range _ init r (Range-gives range) begins ran
+      ∙ positions_joined join range.start up_to more (range.end - range.start)
 
 module _ {V : Type 0} {s : Scale V} (o : Lattice s) (f : ℕ → V) where
   pub greatest_begun : (a : ℕ) (v : V) → v ≡ s.lowest → v ≡ greatest s a a f
@@ -20,21 +50,6 @@ module _ {V : Type 0} {s : Scale V} (o : Lattice s) (f : ℕ → V) where
   pub least_on : (a p : ℕ) (m x w : V) → a ≤ p → m ≡ least s a p f → x ≡ f p → w ≡ s.lesser m x → w ≡ least s a (p + 1) f
   least_on a p m x w h so_far here next =
       next ∙ ap₂ s.lesser so_far here ∙ sym (least_next o f a p h) ∙ ap (λ q. least s a q f) (sym (add-one p))
-
-  -- the loop from a is at p and goes no further than b; a range that is turned round is not gone into
-  pub greatest_done : (a b p : ℕ) (m : V) → (a ≤ b → p ≤ b) → (b ≤ a → p ≡ a) → b ≤ p → m ≡ greatest s a p f → m ≡ greatest s a b f
-  greatest_done a b p m up turned end e =
-      ⊎_elim
-      (λ lt. let at : p ≡ b = omega (arith, up (omega arith)) in e ∙ ap (λ q. greatest s a q f) at)
-      (λ ge. e ∙ greatest_none o f a p (omega (arith, turned ge)) ∙ sym (greatest_none o f a b ge))
-      (cases_lt a b)
-
-  pub least_done : (a b p : ℕ) (m : V) → (a ≤ b → p ≤ b) → (b ≤ a → p ≡ a) → b ≤ p → m ≡ least s a p f → m ≡ least s a b f
-  least_done a b p m up turned end e =
-      ⊎_elim
-      (λ lt. let at : p ≡ b = omega (arith, up (omega arith)) in e ∙ ap (λ q. least s a q f) at)
-      (λ ge. e ∙ least_none o f a p (omega (arith, turned ge)) ∙ sym (least_none o f a b ge))
-      (cases_lt a b)
 
 module _ {V : Type 0} {s : Scale V} (o : Lattice s) (l r : ℕ → V) (i : ℕ) where
   -- until and since, at j: the best so far, and the least of left as far as the next right needs it

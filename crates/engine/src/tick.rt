@@ -5,8 +5,8 @@ ghost use Rattle.engine.specs.Ticking.{sample_in, sample_of, Sound, EndsInside, 
 
 use super::ask::is_sample;
 use super::ends::ends_all;
-use super::keep::{Keep, keep_of, operand_of};
-use super::settle::settle;
+use super::keep::Keep;
+use super::turn::Turn;
 use scale::Scale;
 use source::Source;
 use table::node::Node;
@@ -46,11 +46,9 @@ pub(crate) fn settle_all<V: Scale, S: Source<Value = V>>(
     ensures next { TakenOn V.Scale.scale (answer S.layer (S.frames source.now) n) nodes.now n memory.old memory.new keeps.old keeps.new }
 {
     for (k, node) in nodes.iter().enumerate() {
-        let sample = sample_of(source, n, *node);
-        let own = keep_of(keeps, k);
-        let left = operand_of(keeps, *node, k, node.left);
-        let right = operand_of(keeps, *node, k, node.right);
-        keeps[k] = settle(sample, memory, *node, own, left, right, n);
+        let mut turn = Turn::of(memory, keeps, *node, k);
+        turn.settle(sample_of(source, n, *node), n);
+        keeps[k] = turn.own;
     }
 }
 
