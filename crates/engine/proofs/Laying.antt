@@ -1,7 +1,8 @@
 -- Queues that are laid out one behind the other lie apart, and all of them within the need. Assumes nothing.
-use Rattle.std.proofs.Common.{◌≡◌, ℕ, zero, suc, ◌+◌, ◌-◌, ◌*◌, ◌<◌, ◌≤◌, max, ◌≢◌, List, length, get_or, set, sym, refl, ap, subst, ⊎_elim, add-one, arith, below_more}
+use Rattle.std.proofs.Common.{◌≡◌, ℕ, zero, suc, ◌+◌, ◌-◌, ◌*◌, ◌<◌, ◌≤◌, ◌≢◌, List, length, get_or, set, sym, refl, ap, subst, ⊎_elim, add-one, arith, below_more}
 use Rattle.std.proofs.lemmas.List.{get_or-set_same, get_or-set_other}
 use Rattle.std.proofs.lemmas.Bool.{cases_eq}
+use Rattle.queue.specs.Regions.{Stands}
 use Rattle.table.specs.Places.{total, places, need}
 use Rattle.table.specs.Tables.{Table, size}
 use Rattle.engine.specs.declared.keep.Keep.{Keep}
@@ -46,17 +47,13 @@ module _ (t : Table) (ps : List ℕ) (qs : List Keep) (many : length ps ≡ size
       let all : start_of ps (size t) ≡ total (size t) (places t) + 2 * size t = whole_start (λ j. get_or ps j 0) (places t) (size t) (λ j i. are j (omega arith)) in
       omega (arith, (laid_at k h).ends, start_rises ps k (size t) h, all)
 
-  pub laid_ordered : (k : ℕ) → k < size t → (keep_of qs k).from ≤ (keep_of qs k).to
-  laid_ordered k h = omega (arith, (laid_at k h).begins, (laid_at k h).ends)
+  pub laid_stands : (k : ℕ) → k < size t → let q = keep_of qs k in Stands (need t) q.from q.to q.at
+  laid_stands k h =
+      let at = laid_at k h in
+      record { ordered = omega (arith, at.begins, at.ends); inside = omega (arith, laid_inside k h); fits = record { holds = omega (arith, at.none); begins = omega (arith, at.head) } }
 
   pub laid_roomy : (k : ℕ) → k < size t → (keep_of qs k).to - (keep_of qs k).from ≡ places t k
   laid_roomy k h = omega (arith, (laid_at k h).begins, (laid_at k h).ends, are k (omega arith))
-
-  pub laid_holds : (k : ℕ) → k < size t → (keep_of qs k).at.len ≤ (keep_of qs k).to - (keep_of qs k).from
-  laid_holds k h = omega (arith, (laid_at k h).none)
-
-  pub laid_begins : (k : ℕ) → k < size t → (keep_of qs k).at.head < max ((keep_of qs k).to - (keep_of qs k).from) 1
-  laid_begins k h = omega (arith, (laid_at k h).head)
 
   pub laid_unsettled : (k m : ℕ) → k < size t → (keep_of qs k).count ≤ m
   laid_unsettled k m h = omega (arith, (laid_at k h).unsettled)
