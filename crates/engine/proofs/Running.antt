@@ -69,12 +69,6 @@ module _ {V : Type 0} (s : Scale V) (sample : V) (memory : List V) (x : Node) (q
         let g = ran.gained in
         ap₂ (λ f h. value_at s x (λ n c. sample) f h p) (reads_as_before memory now q l y g.before g.behind apart_left) (reads_as_before memory now q r y g.before g.behind apart_right)
 
-    pub ran_stands : length now ≡ length memory → Stands (length now) q'.from q'.to q'.at
-    ran_stands long =
-        let g = ran.gained in
-        subst (λ n. Stands n q'.from q'.to q'.at) (sym long)
-        (subst (λ a. Stands (length memory) a q'.to q'.at) (sym g.begins) (subst (λ b. Stands (length memory) q.from b q'.at) (sym g.ends) g.stands))
-
     pub ran_step : length now ≡ length memory → (then : List V) (q'' : Keep) (low high : V) → KeptOne now then q' low q'' → low ≡ worked s sample now x l r s.lowest q'.count → high ≡ worked s sample now x l r s.highest q'.count → low ≡ high → Ran s sample memory then x q q'' l r
     ran_step long then q'' low high kept is-low is-high agree =
         let g = ran.gained in

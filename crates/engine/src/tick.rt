@@ -1,7 +1,7 @@
 //! All nodes at one tick.
 ghost use Rattle.std.specs.Prelude.{◌≡◌, suc, ◌^◌, ◌<◌, ◌≤◌, length, take};
 ghost use Rattle.source.specs.Frames.{answer};
-ghost use Rattle.engine.specs.Ticking.{sample_in, sample_of, Sound, EndsInside, SameRegions, OthersKept, AroundNodesKept, TakenOn, WholeTick};
+ghost use Rattle.engine.specs.Ticking.{sample_of, Sound, EndsInside, SameRegions, OthersKept, AroundNodesKept, TakenOn, WholeTick};
 
 use super::ask::is_sample;
 use super::ends::ends_all;
@@ -11,21 +11,14 @@ use scale::Scale;
 use source::Source;
 use table::node::Node;
 
-/// The sample that a source answers with; the lowest value stands for a fault.
-fn sample_at<S: Source>(source: &S, n: usize, sample: u16) -> S::Value
-    ensures { result ≡ sample_in S.Value.Scale.scale (answer S.layer (S.frames source.now) n sample) }
-{
-    source
-        .ask(n, usize::from(sample))
-        .unwrap_or(<S::Value>::lowest())
-}
-
-/// The sample of a node at tick `n`; a node that is no sample has none.
+/// The sample of a node at tick `n`; the lowest value stands for a fault. A node that is no sample has none.
 fn sample_of<S: Source>(source: &S, n: usize, node: Node) -> S::Value
     ensures { result ≡ sample_of S.Value.Scale.scale (answer S.layer (S.frames source.now) n) node }
 {
     if is_sample(node.kind) {
-        return sample_at(source, n, node.left);
+        return source
+            .ask(n, usize::from(node.left))
+            .unwrap_or(<S::Value>::lowest());
     }
     <S::Value>::lowest()
 }
