@@ -9,7 +9,7 @@ use scale::Scale;
 use table::kind::Kind;
 use table::node::Node;
 
-/// A node that is not a sample, or one with any two queues in their place: its window, and its operands' queues.
+/// A node, and the queues of its operands; a sample has none, and any two queues stand there.
 #[derive(Drop)]
 pub(crate) struct Operands<'a, V> {
     pub(crate) node: Node,
