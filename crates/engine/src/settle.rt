@@ -13,6 +13,7 @@ use table::kind::Sort;
 pub fn agree<V: Scale>(a: V, b: V) -> bool
     ensures { result ≡ same V.Scale.scale a b }
 {
+    // A scale promises an order, and no equality that `==` could stand for.
     a.at_most(b) && b.at_most(a)
 }
 

@@ -10,7 +10,7 @@ pub loop-i-init : goal.loop-i-init
 loop-i-init g c =
     let was = c.args.self.now in
     record {
-      ran = ran_start g.V.Scale.scale c.args.sample was.memory.now was.node was.own was.left was.right was.own_stands;
+      ran = ran_start was.own_stands;
       count = refl;
       node = refl;
       left = refl;
@@ -28,8 +28,7 @@ loop-i-preserved g c =
     let low : c.work_out-low.result ≡ worked s c.args.sample is.memory.now was.node was.left was.right s.lowest is.own.count = cc in
     let high : c.work_out-high.result ≡ worked s c.args.sample is.memory.now was.node was.left was.right s.highest is.own.count = cc in
     record {
-      ran = ran_step s c.args.sample was.memory.now was.node was.own was.left was.right was.own_stands c.requires.apart.0 c.requires.apart.1 is.memory.now is.own so_far.ran so_far.long c.keep_next.new.self.memory.now c.keep_next.new.self.own c.work_out-low.result c.work_out-high.result c.keep_next.ensures.kept
-          low high (same_equal (bounds _ g.met.V.Scale.order) _ _ (sym c.if-not-agree.ensures));
+      ran = ran_step was.own_stands c.requires.apart.0 c.requires.apart.1 so_far.ran so_far.long c.keep_next.ensures.kept low high (same_equal (bounds _ g.met.V.Scale.order) _ _ (sym c.if-not-agree.ensures));
       count = omega (arith, c.keep_next.ensures.kept.count, so_far.count);
       node = c.keep_next.ensures.rest.0 ∙ so_far.node;
       left = c.keep_next.ensures.rest.1 ∙ so_far.left;
@@ -46,7 +45,7 @@ returns-then-not-agree-clause-settles g c =
     let so_far = c.loop-i.invariant in
     let low : c.work_out-low.result ≡ worked s c.args.sample is.memory.now was.node was.left was.right s.lowest is.own.count = cc in
     let high : c.work_out-high.result ≡ worked s c.args.sample is.memory.now was.node was.left was.right s.highest is.own.count = cc in
-    let before = worked_as_before s c.args.sample was.memory.now was.node was.own was.left was.right was.own_stands c.requires.apart.0 c.requires.apart.1 is.memory.now is.own so_far.ran in
+    let before = worked_as_before was.own_stands c.requires.apart.0 c.requires.apart.1 so_far.ran in
     record {
       gained = so_far.ran.gained;
       one = λ e. absurd (true≢false (sym e ∙ c.requires.later));
