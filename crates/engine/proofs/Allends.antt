@@ -1,5 +1,5 @@
 -- All nodes, one after the other, get their ends stored. Assumes nothing.
-use Rattle.std.proofs.Common.{◌≡◌, ℕ, suc, ◌+◌, ◌<◌, ◌≤◌, false, List, length, get_or, set, sym, refl, ap, ◌∙◌, subst, ap₂, inl, inr, ⊎_elim, arith}
+use Rattle.std.proofs.Common.{◌≡◌, ℕ, suc, ◌+◌, ◌<◌, ◌≤◌, false, List, length, get_or, set, sym, ap, ◌∙◌, subst, inl, inr, ⊎_elim, arith}
 use Rattle.std.proofs.lemmas.List.{length-set, get_or-set_same, get_or-set_other}
 use Rattle.std.proofs.lemmas.Bool.{cases_Bool, cases_eq, cases_order, cond-true, cond-false}
 use Rattle.std.specs.List.{between}
@@ -17,7 +17,7 @@ use Rattle.settling.proofs.Sorts.{Inner}
 use Rattle.engine.specs.declared.keep.Keep.{Keep}
 use Rattle.engine.specs.Ending.{ends_from}
 use Rattle.engine.specs.State.{EndsAt, keep_of, AllAt}
-use Rattle.engine.specs.Ticking.{operand_of, Sound, EndsInside, AllButEndsKept, StillAt, EndsStored}
+use Rattle.engine.specs.Ticking.{operand_of, Sound, EndsInside, AllButEndsKept, StillAt}
 use Rattle.engine.proofs.Endstep.{ends_are}
 
 -- of the nodes those below k have their ends stored
@@ -25,9 +25,9 @@ pub record Storing {V : Type 0} (s : Scale V) (nodes : List Node) (n : ℕ) (sta
   pub others : AllButEndsKept qs (length nodes) start memory
   pub means : (t : Table) (σ : ℕ → ℕ → V) → Accepted t → t.nodes ≡ nodes → AllAt s σ (suc n) t start qs → (j : ℕ) → j < k → EndsAt s σ n t j memory (keep_of qs j)
 
-module _ (nodes : List Node) (qs : List Keep) (space m : ℕ) (sound : Sound nodes qs space m) where
+module _ {nodes : List Node} {qs : List Keep} {space m : ℕ} (sound : Sound nodes qs space m) where
   -- a node's queue lies apart from all ends
-  pub queue_apart : (j i : ℕ) → j < length nodes → i < length nodes → Apart (keep_of qs i).to ((keep_of qs i).to + 2) (keep_of qs j).from (keep_of qs j).to
+  queue_apart : (j i : ℕ) → j < length nodes → i < length nodes → Apart (keep_of qs i).to ((keep_of qs i).to + 2) (keep_of qs j).from (keep_of qs j).to
   queue_apart j i hj hi =
       ⊎_elim
       (λ e. inl (omega (arith, ap (λ k. (keep_of qs k).to) e)))
@@ -37,7 +37,7 @@ module _ (nodes : List Node) (qs : List Keep) (space m : ℕ) (sound : Sound nod
       (cases_order j i)
 
   -- so the queues hold what they held where only ends were written
-  pub regions_kept : {V : Type 0} (memory now : List V) → AllButEndsKept qs (length nodes) memory now → (j : ℕ) → j < length nodes → between (keep_of qs j).from (keep_of qs j).to now ≡ between (keep_of qs j).from (keep_of qs j).to memory
+  regions_kept : {V : Type 0} (memory now : List V) → AllButEndsKept qs (length nodes) memory now → (j : ℕ) → j < length nodes → between (keep_of qs j).from (keep_of qs j).to now ≡ between (keep_of qs j).from (keep_of qs j).to memory
   regions_kept memory now others j h = others _ _ (λ i hi. queue_apart j i h hi)
 
   pub still_at : {V : Type 0} (s : Scale V) (memory now : List V) → AllButEndsKept qs (length nodes) memory now → StillAt s nodes m memory now qs
@@ -49,7 +49,7 @@ module _ (nodes : List Node) (qs : List Keep) (space m : ℕ) (sound : Sound nod
         holds = ap (λ part. contents part (keep_of qs j).at) (regions_kept memory now others j (omega (arith, ap length is))) ∙ at.holds;
       }
 
-  module _ (within : EndsInside nodes qs space) (k : ℕ) (h : k < length nodes) where
+  module _ (within : EndsInside nodes qs space) {k : ℕ} (h : k < length nodes) where
     abbrev its_node : Node
     its_node = get_or nodes k blank
 
@@ -61,14 +61,8 @@ module _ (nodes : List Node) (qs : List Keep) (space m : ℕ) (sound : Sound nod
         (λ e. subst (λ (u : Keep). u.to + 2 ≤ space) (sym (cond-false _ _ _ e)) (within j (omega (arith, below e))))
         (cases_Bool (sampled its_node.kind))
 
-module _ {V : Type 0} (s : Scale V) (o : Lattice s) (nodes : List Node) (n : ℕ) (start : List V) (qs : List Keep) (sound : Sound nodes qs (length start) (suc n)) (within : EndsInside nodes qs (length start)) where
-  pub storing_start : Storing s nodes n start qs 0 start
-  storing_start = record { others = λ a b free. refl; means = λ t σ acc is all j lt. absurd (omega arith) }
-
-  module _ (k : ℕ) (memory : List V) (storing : Storing s nodes n start qs k memory) where
-    pub storing_end : length nodes ≤ k → EndsStored s nodes n start memory qs
-    storing_end end t σ acc is all j h = storing.means t σ acc is all j (omega (arith, ap length is))
-
+module _ {V : Type 0} {s : Scale V} (o : Lattice s) {nodes : List Node} {n : ℕ} {start : List V} {qs : List Keep} (sound : Sound nodes qs (length start) (suc n)) (within : EndsInside nodes qs (length start)) where
+  module _ {k : ℕ} {memory : List V} (storing : Storing s nodes n start qs k memory) where
     module _ (h : k < length nodes) (long : length memory ≡ length start) (v w : V) where
       abbrev x : Node
       x = get_or nodes k blank
@@ -112,11 +106,11 @@ module _ {V : Type 0} (s : Scale V) (o : Lattice s) (nodes : List Node) (n : ℕ
         found =
             let y = node t k in
             let same : y ≡ x = ap (λ l. get_or l k blank) is in
-            let room : (j : ℕ) → (sampled x.kind ≡ false → j < k) → (operand_of qs x k j).to + 2 ≤ length memory = λ j below. omega (arith, operand_room nodes qs (length start) (suc n) sound within k h j below) in
+            let room : (j : ℕ) → (sampled x.kind ≡ false → j < k) → (operand_of qs x k j).to + 2 ≤ length memory = λ j below. omega (arith, operand_room sound within h j below) in
             let stands : Stands (length memory) q.from q.to q.at = subst (λ m. Stands m q.from q.to q.at) (sym long) (sound.stands k h) in
             subst (λ z. ends_from s memory z q (operand_of qs z k z.left) (operand_of qs z k z.right) n ≡ ends s σ n t k) same
             (ends_are o acc σ n k in_table memory q (operand_of qs y k y.left) (operand_of qs y k y.right) stands
-            (still_at nodes qs (length start) (suc n) sound s start memory storing.others t σ acc is all k in_table)
+            (still_at sound s start memory storing.others t σ acc is all k in_table)
             (subst (λ z. ((operand_of qs z k z.left).to + 2 ≤ length memory) × ((operand_of qs z k z.right).to + 2 ≤ length memory)) (sym same) (room x.left (λ e. (sound.below k h e).0), room x.right (λ e. (sound.below k h e).1)))
             (λ inner. operand_ends y.left inner (operands_before acc k in_table inner).0)
             (λ inner. operand_ends y.right inner (operands_before acc k in_table inner).1))
@@ -124,7 +118,7 @@ module _ {V : Type 0} (s : Scale V) (o : Lattice s) (nodes : List Node) (n : ℕ
         own_ends : v ≡ found_ends.lower → w ≡ found_ends.upper → EndsAt s σ n t k now q
         own_ends low high = record { lower = at_lower ∙ low ∙ ap (λ e. e.lower) found; upper = at_upper ∙ high ∙ ap (λ e. e.upper) found }
 
-      storing_set : v ≡ found_ends.lower → w ≡ found_ends.upper → Storing s nodes n start qs (k + 1) now
+      pub storing_set : v ≡ found_ends.lower → w ≡ found_ends.upper → Storing s nodes n start qs (k + 1) now
       storing_set low high = record {
         others = λ a b free.
             between_set (set memory q.to v) (q.to + 1) a b w (⊎_elim (λ e. inl (omega arith)) (λ e. inr (omega arith)) (free k h))
@@ -136,20 +130,3 @@ module _ {V : Type 0} (s : Scale V) (o : Lattice s) (nodes : List Node) (n : ℕ
             (λ ne. let less : j < k = omega arith in before_kept σ t j less (storing.means t σ acc is all j less))
             (cases_eq j k);
       }
-
-      -- the same of what the code has at hand: the three queues, and the memory after both were stored
-      pub storing_on :
-          (own left right : Keep) (then : List V)
-          → own ≡ q
-          → left ≡ operand_of qs x k x.left
-          → right ≡ operand_of qs x k x.right
-          → v ≡ (ends_from s memory x own left right n).lower
-          → w ≡ (ends_from s memory x own left right n).upper
-          → then ≡ set (set memory own.to v) (own.to + 1) w
-          → Storing s nodes n start qs (k + 1) then
-      storing_on own left right then own_is left_is right_is low high stored =
-          let same : ends_from s memory x own left right n ≡ found_ends =
-          ap (λ u. ends_from s memory x u left right n) own_is
-          ∙ ap₂ (λ l r. ends_from s memory x q l r n) left_is right_is in
-          subst (Storing s nodes n start qs (k + 1)) (sym (stored ∙ ap (λ u. set (set memory u.to v) (u.to + 1) w) own_is))
-          (storing_set (low ∙ ap (λ e. e.lower) same) (high ∙ ap (λ e. e.upper) same))

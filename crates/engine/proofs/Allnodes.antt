@@ -1,5 +1,5 @@
 -- All nodes, one after the other, taken on by a tick. Assumes nothing.
-use Rattle.std.proofs.Common.{◌≡◌, ℕ, suc, ◌+◌, ◌<◌, ◌≤◌, true, false, ◌≢◌, List, length, get_or, set, Result, unwrap_or, sym, refl, ap, ◌∙◌, subst, inl, inr, ⊎_elim, arith}
+use Rattle.std.proofs.Common.{◌≡◌, ℕ, suc, ◌+◌, ◌<◌, ◌≤◌, true, false, ◌≢◌, List, length, get_or, set, Result, unwrap_or, sym, ap, ◌∙◌, subst, inl, inr, ⊎_elim, arith}
 use Rattle.std.proofs.lemmas.List.{get_or-set_same, get_or-set_other}
 use Rattle.std.proofs.lemmas.Bool.{cases_Bool, cases_eq, cases_order, cond-true, cond-false}
 use Rattle.std.specs.Result.{result_ok}
@@ -17,7 +17,7 @@ use Rattle.settling.proofs.Sorts.{Inner, once_or_later}
 use Rattle.engine.specs.declared.keep.Keep.{Keep}
 use Rattle.engine.specs.Settling.{Gained, Settles}
 use Rattle.engine.specs.State.{At, nowhere, keep_of, AllAt}
-use Rattle.engine.specs.Ticking.{sample_of, operand_of, Sound, Asked, SameRegions, OthersKept, TakenOn}
+use Rattle.engine.specs.Ticking.{sample_of, operand_of, Sound, Asked, SameRegions, OthersKept}
 use Rattle.engine.proofs.Nodestep.{node_step}
 
 -- of the nodes those below k are taken on
@@ -37,18 +37,8 @@ at_kept s σ m t j memory now q q' u more g apart at = record {
   holds = ap (λ part. contents part u.at) (between_apart memory now q.from q.to u.from u.to g.before g.behind apart) ∙ at.holds;
 }
 
-module _ {V : Type 0} (s : Scale V) (o : Lattice s) (answers : ℕ → Result V Fault) (nodes : List Node) (n : ℕ) (start : List V) (begin : List Keep) (sound : Sound nodes begin (length start) n) where
-  pub going_start : Going s answers nodes n start begin 0 start begin
-  going_start = record {
-    regions = λ j. (refl, refl);
-    to_come = λ j h. refl;
-    stands = sound.stands;
-    counted = λ j h. omega (arith, sound.counted j h);
-    others = λ a b h. refl;
-    means = λ t σ acc is asked all j h. (λ lt. absurd (omega arith), λ ge. all j h);
-  }
-
-  module _ (k : ℕ) (memory : List V) (qs : List Keep) (going : Going s answers nodes n start begin k memory qs) where
+module _ {V : Type 0} {s : Scale V} (o : Lattice s) {answers : ℕ → Result V Fault} {nodes : List Node} {n : ℕ} {start : List V} {begin : List Keep} (sound : Sound nodes begin (length start) n) where
+  module _ {k : ℕ} {memory : List V} {qs : List Keep} (going : Going s answers nodes n start begin k memory qs) where
     -- the regions of two nodes share no slot
     apart_of : (j i : ℕ) → j ≢ i → j < length nodes → i < length nodes → Apart (keep_of qs i).from (keep_of qs i).to (keep_of qs j).from (keep_of qs j).to
     apart_of j i ne hj hi =
@@ -58,9 +48,6 @@ module _ {V : Type 0} (s : Scale V) (o : Lattice s) (answers : ℕ → Result V 
         (λ e. absurd (ne e))
         (⊎_elim (λ lt. inl (omega (arith, sound.rising j i lt hi))) (λ gt. inr (omega (arith, sound.rising i j gt hj))))
         (cases_order j i)
-
-    pub going_end : length nodes ≤ k → TakenOn s answers nodes n start memory begin qs
-    going_end end t σ acc is asked all j h = (going.means t σ acc is asked all j h).0 (omega (arith, ap length is))
 
     pub going_sound : length qs ≡ length begin → Sound nodes qs (length start) (suc n)
     going_sound long = record {
@@ -93,7 +80,7 @@ module _ {V : Type 0} (s : Scale V) (o : Lattice s) (answers : ℕ → Result V 
       pub own_counted : q.count ≤ n
       own_counted = subst (λ u. u.count ≤ n) (sym (going.to_come k (omega arith))) (sound.counted k h)
 
-      module _ (now : List V) (q' : Keep) (step : Settles s (sample_of s answers x) memory now x q q' (operand_of qs x k x.left) (operand_of qs x k x.right) n) (long : length qs ≡ length begin) (same_size : length memory ≡ length start) where
+      module _ {now : List V} {q' : Keep} (step : Settles s (sample_of s answers x) memory now x q q' (operand_of qs x k x.left) (operand_of qs x k x.right) n) (long : length qs ≡ length begin) (same_size : length memory ≡ length start) where
         at_k : keep_of (set qs k q') k ≡ q'
         at_k = get_or-set_same qs k q' nowhere (omega (arith, sound.each))
 

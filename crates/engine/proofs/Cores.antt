@@ -1,5 +1,5 @@
 -- What always holds of a monitor's state, before a tick and after it. Assumes nothing.
-use Rattle.std.proofs.Common.{◌≡◌, ℕ, ◌+◌, ◌-◌, ◌<◌, ◌≤◌, max, List, length, take, sym, ap, subst, arith}
+use Rattle.std.proofs.Common.{◌≡◌, ℕ, ◌+◌, ◌<◌, ◌≤◌, List, length, take, sym, ap, subst, arith}
 use Rattle.std.proofs.lemmas.List.{length-take-le}
 use Rattle.queue.specs.Regions.{Stands}
 use Rattle.table.specs.declared.kind.Sort.{Sort}
@@ -7,7 +7,7 @@ use Rattle.table.specs.declared.kind.Sort.TheVariants.{Leaf, Point, Ahead, Back}
 use Rattle.table.specs.declared.node.Node.{Node}
 use Rattle.table.specs.Accepting.{Fits}
 use Rattle.table.specs.Kinds.{shape}
-use Rattle.table.specs.Places.{places, need}
+use Rattle.table.specs.Places.{need}
 use Rattle.table.specs.Tables.{Table, size, node}
 use Rattle.table_check.proofs.Lawful.{plan_accepted}
 use Rattle.settling.proofs.Nodes.{operands_before}
@@ -30,7 +30,7 @@ module _ (c : Core) where
   t = monitored c
 
   pub queue_stands : (space : ℕ) → need t ≤ space → (k : ℕ) → k < size t → let q = keep_of c.keeps k in Stands space q.from q.to q.at
-  queue_stands space room k h = record { ordered = c.ordered k h; inside = omega (arith, c.inside k h); fits = record { holds = c.holds k h; begins = c.begins k h } }
+  queue_stands space room k h = let at = c.stands k h in record { ordered = at.ordered; inside = omega (arith, at.inside); fits = at.fits }
 
   -- the queues of the nodes, which stand in front of others
   pub queues_sound : (space : ℕ) → need t ≤ space → 64 ≤ length c.keeps → Sound t.nodes (take (size t) c.keeps) space c.ticks
@@ -50,15 +50,6 @@ module _ (c : Core) where
     pub still_rising : (j k : ℕ) → j < k → k < size t → (keep_of qs j).to + 2 ≤ (keep_of qs k).from
     still_rising j k lt h = omega (arith, (regions j).1, (regions k).0, c.rising j k lt h)
 
-    pub still_inside : (k : ℕ) → k < size t → (keep_of qs k).to + 2 ≤ need t
-    still_inside k h = omega (arith, (regions k).1, c.inside k h)
-
-    pub still_ordered : (k : ℕ) → k < size t → (keep_of qs k).from ≤ (keep_of qs k).to
-    still_ordered k h = omega (arith, (regions k).0, (regions k).1, c.ordered k h)
-
-    pub still_roomy : (k : ℕ) → k < size t → (keep_of qs k).to - (keep_of qs k).from ≡ places t k
-    still_roomy k h = omega (arith, (regions k).0, (regions k).1, c.roomy k h)
-
     module _ (nodes : List Node) (space n : ℕ) (sound : Sound nodes (take (length nodes) qs) space n) (is : nodes ≡ t.nodes) where
       here : (k : ℕ) → k < size t → k < length nodes
       here k h = omega (arith, ap length is)
@@ -66,11 +57,10 @@ module _ (c : Core) where
       own : (k : ℕ) → k < size t → keep_of (take (length nodes) qs) k ≡ keep_of qs k
       own k h = in_front (length nodes) qs k (here k h)
 
-      pub still_holds : (k : ℕ) → k < size t → (keep_of qs k).at.len ≤ (keep_of qs k).to - (keep_of qs k).from
-      still_holds k h = subst (λ (q : Keep). q.at.len ≤ q.to - q.from) (own k h) (sound.stands k (here k h)).fits.holds
-
-      pub still_begins : (k : ℕ) → k < size t → (keep_of qs k).at.head < max ((keep_of qs k).to - (keep_of qs k).from) 1
-      still_begins k h = subst (λ (q : Keep). q.at.head < max (q.to - q.from) 1) (own k h) (sound.stands k (here k h)).fits.begins
+      pub still_stands : (k : ℕ) → k < size t → let q = keep_of qs k in Stands (need t) q.from q.to q.at
+      still_stands k h =
+          let at = subst (λ (q : Keep). Stands space q.from q.to q.at) (own k h) (sound.stands k (here k h)) in
+          record { ordered = at.ordered; inside = omega (arith, (regions k).1, c.inside k h); fits = at.fits }
 
       pub still_counted : (m : ℕ) → n ≤ m → (k : ℕ) → k < size t → (keep_of qs k).count ≤ m
       still_counted m le k h = omega (arith, ap (λ (q : Keep). q.count) (own k h), sound.counted k (here k h))

@@ -1,24 +1,12 @@
 -- Queues that are laid out one behind the other lie apart, and all of them within the need. Assumes nothing.
-use Rattle.std.proofs.Common.{◌≡◌, ℕ, zero, suc, ◌+◌, ◌-◌, ◌*◌, ◌<◌, ◌≤◌, max, ◌≢◌, List, length, get_or, set, sym, refl, ap, subst, ⊎_elim, add-one, arith, below_more}
-use Rattle.std.proofs.lemmas.List.{get_or-set_same, get_or-set_other}
+use Rattle.std.proofs.Common.{◌≡◌, ℕ, zero, suc, ◌+◌, ◌-◌, ◌*◌, ◌<◌, ◌≤◌, List, length, get_or, refl, ap, ⊎_elim, arith}
 use Rattle.std.proofs.lemmas.Bool.{cases_eq}
+use Rattle.queue.specs.Regions.{Stands}
 use Rattle.table.specs.Places.{total, places, need}
 use Rattle.table.specs.Tables.{Table, size}
 use Rattle.engine.specs.declared.keep.Keep.{Keep}
 use Rattle.engine.specs.Laying.{start_of, Laid}
-use Rattle.engine.specs.State.{nowhere, keep_of}
-
--- the next region begins behind this one
-pub start_next : (ps : List ℕ) (k : ℕ) → start_of ps (k + 1) ≡ start_of ps k + (get_or ps k 0 + 2)
-start_next ps k = ap (start_of ps) (add-one k)
-
--- one more queue is laid out
-pub laid_next : (ps : List ℕ) (qs : List Keep) (k from : ℕ) → k < length qs → from ≡ start_of ps k → ((j : ℕ) → j < k → Laid ps j (keep_of qs j)) → (j : ℕ) → j < k + 1 → Laid ps j (keep_of (set qs k (record { from = from; to = from + get_or ps k 0; at = record { head = 0; len = 0 }; count = 0 })) j)
-laid_next ps qs k from h is laid =
-    let q : Keep = record { from = from; to = from + get_or ps k 0; at = record { head = 0; len = 0 }; count = 0 } in
-    below_more _ _
-    (λ j lt. let ne : j ≢ k = omega arith in subst (Laid ps j) (sym (get_or-set_other qs k j q nowhere ne)) (laid j lt))
-    (subst (Laid ps k) (sym (get_or-set_same qs k q nowhere h)) (record { begins = is; ends = ap (λ a. a + get_or ps k 0) is; head = refl; none = refl; unsettled = refl }))
+use Rattle.engine.specs.State.{keep_of}
 
 start_rises : (ps : List ℕ) (a b : ℕ) → a < b → start_of ps a + (get_or ps a 0 + 2) ≤ start_of ps b
 start_rises ps a zero h = absurd (omega arith)
@@ -46,17 +34,13 @@ module _ (t : Table) (ps : List ℕ) (qs : List Keep) (many : length ps ≡ size
       let all : start_of ps (size t) ≡ total (size t) (places t) + 2 * size t = whole_start (λ j. get_or ps j 0) (places t) (size t) (λ j i. are j (omega arith)) in
       omega (arith, (laid_at k h).ends, start_rises ps k (size t) h, all)
 
-  pub laid_ordered : (k : ℕ) → k < size t → (keep_of qs k).from ≤ (keep_of qs k).to
-  laid_ordered k h = omega (arith, (laid_at k h).begins, (laid_at k h).ends)
+  pub laid_stands : (k : ℕ) → k < size t → let q = keep_of qs k in Stands (need t) q.from q.to q.at
+  laid_stands k h =
+      let at = laid_at k h in
+      record { ordered = omega (arith, at.begins, at.ends); inside = omega (arith, laid_inside k h); fits = record { holds = omega (arith, at.none); begins = omega (arith, at.head) } }
 
   pub laid_roomy : (k : ℕ) → k < size t → (keep_of qs k).to - (keep_of qs k).from ≡ places t k
   laid_roomy k h = omega (arith, (laid_at k h).begins, (laid_at k h).ends, are k (omega arith))
-
-  pub laid_holds : (k : ℕ) → k < size t → (keep_of qs k).at.len ≤ (keep_of qs k).to - (keep_of qs k).from
-  laid_holds k h = omega (arith, (laid_at k h).none)
-
-  pub laid_begins : (k : ℕ) → k < size t → (keep_of qs k).at.head < max ((keep_of qs k).to - (keep_of qs k).from) 1
-  laid_begins k h = omega (arith, (laid_at k h).head)
 
   pub laid_unsettled : (k m : ℕ) → k < size t → (keep_of qs k).count ≤ m
   laid_unsettled k m h = omega (arith, (laid_at k h).unsettled)

@@ -3,7 +3,6 @@ pub mod Folding
 pub mod Running
 pub mod Nodestep
 pub mod Allnodes
-pub mod Asked
 pub mod Laying
 pub mod Cores
 pub mod Endstep

@@ -28,22 +28,19 @@ pub reads_as_before : {V : Type 0} (memory now : List V) (q u : Keep) (y : V) �
 reads_as_before memory now q u y before behind apart =
     ap (λ part. seen y u.count (λ p. get_or (contents part u.at) (p - (u.count - u.at.len)) y)) (between_apart memory now q.from q.to u.from u.to before behind apart)
 
-module _ {V : Type 0} (s : Scale V) (sample : V) (memory : List V) (x : Node) (q l r : Keep) (stands : Stands (length memory) q.from q.to q.at) where
-  -- the value at each position, as both workings-out have it
-  abbrev value_of : ℕ → V
-  value_of = worked s sample memory x l r s.lowest
+-- the values of f from one position up to the one before another, and those with one more
+abbrev more : {V : Type 0} → (ℕ → V) → (from to : ℕ) → List V
+more f from to = map f (range_with_len from (to - from))
 
-  abbrev more : ℕ → List V
-  more c = map value_of (range_with_len q.count (c - q.count))
+none_more : {V : Type 0} (f : ℕ → V) (from : ℕ) → more f from from ≡ []
+none_more f from = let none : from - from ≡ 0 = omega arith in ap (λ n. map f (range_with_len from n)) none
 
-  none_more : more q.count ≡ []
-  none_more = let none : q.count - q.count ≡ 0 = omega arith in ap (λ n. map value_of (range_with_len q.count n)) none
+one_more : {V : Type 0} (f : ℕ → V) (from c : ℕ) → from ≤ c → more f from (c + 1) ≡ more f from c ++ f c ∷ []
+one_more f from c h =
+    let longer : c + 1 - from ≡ c - from + 1 = omega arith in
+    ap (λ n. map f (range_with_len from n)) longer ∙ map-range_with_len_more f from (c - from) c (omega arith)
 
-  one_more : (c : ℕ) → q.count ≤ c → more (c + 1) ≡ more c ++ value_of c ∷ []
-  one_more c h =
-      let longer : c + 1 - q.count ≡ c - q.count + 1 = omega arith in
-      ap (λ n. map value_of (range_with_len q.count n)) longer ∙ map-range_with_len_more value_of q.count (c - q.count) c (omega arith)
-
+module _ {V : Type 0} {s : Scale V} {sample : V} {memory : List V} {x : Node} {q l r : Keep} (stands : Stands (length memory) q.from q.to q.at) where
   pub ran_start : Ran s sample memory memory x q q l r
   ran_start =
       let held = values_in memory q in
@@ -53,47 +50,42 @@ module _ {V : Type 0} (s : Scale V) (sample : V) (memory : List V) (x : Node) (q
         gained = record {
           begins = refl;
           ends = refl;
-          count = omega (arith, ap length none_more);
+          count = omega (arith, ap length (none_more (worked s sample memory x l r s.lowest) q.count));
           stands = stands;
-          holds = sym (ap (newest (q.to - q.from)) (ap (λ l. held ++ l) none_more ∙ append-nil held) ∙ newest_all (q.to - q.from) held short);
+          holds = sym (ap (newest (q.to - q.from)) (ap (λ l. held ++ l) (none_more (worked s sample memory x l r s.lowest) q.count) ∙ append-nil held) ∙ newest_all (q.to - q.from) held short);
           before = refl;
           behind = refl;
         };
         pass = λ p a b. absurd (omega arith);
       }
 
-  module _ (apart_left : Apart q.from q.to l.from l.to) (apart_right : Apart q.from q.to r.from r.to) (now : List V) (q' : Keep) (ran : Ran s sample memory now x q q' l r) where
+  module _ (apart_left : Apart q.from q.to l.from l.to) (apart_right : Apart q.from q.to r.from r.to) {now : List V} {q' : Keep} (ran : Ran s sample memory now x q q' l r) where
     -- the operands' queues are as they were, so what is worked out is too
     pub worked_as_before : (y : V) (p : ℕ) → worked s sample now x l r y p ≡ worked s sample memory x l r y p
     worked_as_before y p =
         let g = ran.gained in
         ap₂ (λ f h. value_at s x (λ n c. sample) f h p) (reads_as_before memory now q l y g.before g.behind apart_left) (reads_as_before memory now q r y g.before g.behind apart_right)
 
-    pub ran_stands : length now ≡ length memory → Stands (length now) q'.from q'.to q'.at
-    ran_stands long =
-        let g = ran.gained in
-        subst (λ n. Stands n q'.from q'.to q'.at) (sym long)
-        (subst (λ a. Stands (length memory) a q'.to q'.at) (sym g.begins) (subst (λ b. Stands (length memory) q.from b q'.at) (sym g.ends) g.stands))
-
-    pub ran_step : length now ≡ length memory → (then : List V) (q'' : Keep) (low high : V) → KeptOne now then q' low q'' → low ≡ worked s sample now x l r s.lowest q'.count → high ≡ worked s sample now x l r s.highest q'.count → low ≡ high → Ran s sample memory then x q q'' l r
-    ran_step long then q'' low high kept is-low is-high agree =
+    pub ran_step : length now ≡ length memory → {then : List V} {q'' : Keep} {low high : V} → KeptOne now then q' low q'' → low ≡ worked s sample now x l r s.lowest q'.count → high ≡ worked s sample now x l r s.highest q'.count → low ≡ high → Ran s sample memory then x q q'' l r
+    ran_step long {then} {q''} {low} {high} kept is-low is-high agree =
+        let f = worked s sample memory x l r s.lowest in
         let g = ran.gained in
         let count : q''.count ≡ q'.count + 1 = kept.count in
-        let here : low ≡ value_of q'.count = is-low ∙ worked_as_before s.lowest q'.count in
+        let here : low ≡ f q'.count = is-low ∙ worked_as_before s.lowest q'.count in
         let cap : q'.to - q'.from ≡ q.to - q.from = ap₂ (λ a b. a - b) g.ends g.begins in
-        let all : more q''.count ≡ more q'.count ++ low ∷ [] = ap more count ∙ one_more q'.count ran.up ∙ ap (λ v. more q'.count ++ v ∷ []) (sym here) in
+        let all : more f q.count q''.count ≡ more f q.count q'.count ++ low ∷ [] = ap (more f q.count) count ∙ one_more f q.count q'.count ran.up ∙ ap (λ v. more f q.count q'.count ++ v ∷ []) (sym here) in
         record {
           up = omega (arith, ran.up);
           gained = record {
             begins = kept.begins ∙ g.begins;
             ends = kept.ends ∙ g.ends;
-            count = omega (arith, count, ap length all, length_push (more q'.count) low, g.count);
+            count = omega (arith, count, ap length all, length_push (more f q.count q'.count) low, g.count);
             stands = subst (λ n. Stands n q.from q.to q''.at) long (subst (λ a. Stands (length now) a q.to q''.at) g.begins (subst (λ b. Stands (length now) q'.from b q''.at) g.ends kept.stands));
             holds =
                 kept.holds
                 ∙ ap₂ (λ n l. newest n (l ++ low ∷ [])) cap g.holds
-                ∙ newest_append (q.to - q.from) (values_in memory q ++ more q'.count) (low ∷ [])
-                ∙ ap (newest (q.to - q.from)) (append_assoc (values_in memory q) (more q'.count) (low ∷ []) ∙ ap (λ l. values_in memory q ++ l) (sym all));
+                ∙ newest_append (q.to - q.from) (values_in memory q ++ more f q.count q'.count) (low ∷ [])
+                ∙ ap (newest (q.to - q.from)) (append_assoc (values_in memory q) (more f q.count q'.count) (low ∷ []) ∙ ap (λ l. values_in memory q ++ l) (sym all));
             before = ap (λ a. take a then) (sym g.begins) ∙ kept.before ∙ ap (λ a. take a now) g.begins ∙ g.before;
             behind = ap (λ b. drop b then) (sym g.ends) ∙ kept.behind ∙ ap (λ b. drop b now) g.ends ∙ g.behind;
           };

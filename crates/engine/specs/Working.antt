@@ -15,6 +15,10 @@ module _ {V : Type 0} (s : Scale V) where
   abbrev pub since_at : (left right : ℕ → V) → (i : ℕ) → ℕ → V
   since_at l r i j = s.lesser (r (i - j)) (least s (i - j + 1) (i + 1) l)
 
-  -- a node's value at each position: of a sample its value at this tick, else the formula over the queues of its operands
+  -- a node's value at each position: of a sample its value at this tick, else the formula over what its operands read
+  abbrev pub worked_from : V → Node → (left right : ℕ → V) → ℕ → V
+  worked_from sample x l r = value_at s x (λ n c. sample) l r
+
+  -- and that where they read their queues in a memory, with y for what is not settled
   abbrev pub worked : V → List V → Node → (left right : Keep) → V → ℕ → V
-  worked sample memory x l r y = value_at s x (λ n c. sample) (reading y memory l) (reading y memory r)
+  worked sample memory x l r y = worked_from sample x (reading y memory l) (reading y memory r)

@@ -23,10 +23,7 @@ pub(crate) fn ask_all<S: Source>(nodes: &[Node], source: &S, n: usize) -> Result
 {
     for node in nodes {
         if is_sample(node.kind) {
-            match source.ask(n, node.left as usize) {
-                Ok(_) => {}
-                Err(fault) => return Err(fault),
-            }
+            source.ask(n, usize::from(node.left))?;
         }
     }
     Ok(())

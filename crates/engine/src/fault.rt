@@ -23,6 +23,7 @@ impl TickFault {
     pub fn number(self) -> u8
         ensures { result ≡ tick_refusal self }
     {
+        // No discriminants: a source's fault keeps its own number.
         match self {
             TickFault::Memory => 21,
             TickFault::Ticks => 31,

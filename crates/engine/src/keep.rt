@@ -51,10 +51,7 @@ pub fn read<V: Scale>(memory: &[V], keep: Keep, position: usize, other: V) -> V
 pub fn keep_of(keeps: &[Keep], k: usize) -> Keep
     ensures { result ≡ keep_of keeps.now k }
 {
-    match keeps.get(k) {
-        Some(keep) => *keep,
-        None => NOWHERE,
-    }
+    keeps.get(k).copied().unwrap_or(NOWHERE)
 }
 
 /// The queue of an operand of node `k`; a sample has none, and its own stands there.
@@ -64,5 +61,5 @@ pub(crate) fn operand_of(keeps: &[Keep], node: Node, k: usize, operand: u16) -> 
     if is_sample(node.kind) {
         return keep_of(keeps, k);
     }
-    keep_of(keeps, operand as usize)
+    keep_of(keeps, usize::from(operand))
 }

@@ -12,8 +12,8 @@ pub(crate) fn lay_out(places: &[u32]) -> [Keep; 64]
 {
     let mut keeps = [NOWHERE; 64];
     let mut from = 0;
-    for k in 0..places.len() {
-        let to = from + places[k] as usize;
+    for (k, place) in places.iter().enumerate() {
+        let to = from + *place as usize;
         keeps[k] = Keep {
             from,
             to,

@@ -10,12 +10,13 @@
 mod ask;
 mod ends;
 pub mod fault;
-mod fold;
 pub mod keep;
 mod lay;
+mod operands;
 mod settle;
+mod standing;
 pub mod state;
 mod tick;
-mod work;
+mod turn;
 
 pub use settle::agree;

@@ -1,5 +1,6 @@
 //! What a monitor holds besides its memory.
-ghost use Rattle.std.specs.Prelude.{◌≡◌, ℕ, ◌+◌, ◌-◌, ◌<◌, ◌≤◌, max, length};
+ghost use Rattle.std.specs.Prelude.{◌≡◌, ℕ, ◌+◌, ◌-◌, ◌<◌, ◌≤◌};
+ghost use Rattle.queue.specs.Regions.{Stands};
 ghost use Rattle.table.specs.Places.{places, need};
 ghost use Rattle.table_check.specs.Plans.{table_of};
 ghost use Rattle.table.specs.Tables.{size};
@@ -19,10 +20,8 @@ pub struct Core {
     ghost few: { ticks ≤ 16777216 },
     ghost rising: { (j k : ℕ) → j < k → k < size (table_of plan) → (keep_of keeps j).to + 2 ≤ (keep_of keeps k).from },
     ghost inside: { (k : ℕ) → k < size (table_of plan) → (keep_of keeps k).to + 2 ≤ need (table_of plan) },
-    ghost ordered: { (k : ℕ) → k < size (table_of plan) → (keep_of keeps k).from ≤ (keep_of keeps k).to },
+    ghost stands: { (k : ℕ) → k < size (table_of plan) → Stands (need (table_of plan)) (keep_of keeps k).from (keep_of keeps k).to (keep_of keeps k).at },
     ghost roomy: { (k : ℕ) → k < size (table_of plan) → (keep_of keeps k).to - (keep_of keeps k).from ≡ places (table_of plan) k },
-    ghost holds: { (k : ℕ) → k < size (table_of plan) → (keep_of keeps k).at.len ≤ (keep_of keeps k).to - (keep_of keeps k).from },
-    ghost begins: { (k : ℕ) → k < size (table_of plan) → (keep_of keeps k).at.head < max ((keep_of keeps k).to - (keep_of keeps k).from) 1 },
     ghost counted: { (k : ℕ) → k < size (table_of plan) → (keep_of keeps k).count ≤ ticks },
 }
 

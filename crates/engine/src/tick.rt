@@ -1,32 +1,24 @@
 //! All nodes at one tick.
 ghost use Rattle.std.specs.Prelude.{◌≡◌, suc, ◌^◌, ◌<◌, ◌≤◌, length, take};
 ghost use Rattle.source.specs.Frames.{answer};
-ghost use Rattle.engine.specs.Ticking.{sample_in, sample_of, Sound, EndsInside, SameRegions, OthersKept, AroundNodesKept, TakenOn, WholeTick};
+ghost use Rattle.engine.specs.Ticking.{sample_of, Sound, EndsInside, SameRegions, OthersKept, AroundNodesKept, TakenOn, WholeTick};
 
 use super::ask::is_sample;
 use super::ends::ends_all;
-use super::keep::{Keep, keep_of, operand_of};
-use super::settle::settle;
+use super::keep::Keep;
+use super::turn::Turn;
 use scale::Scale;
 use source::Source;
 use table::node::Node;
 
-/// The sample that a source answers with; the lowest value stands for a fault.
-fn sample_at<S: Source>(source: &S, n: usize, sample: u16) -> S::Value
-    ensures { result ≡ sample_in S.Value.Scale.scale (answer S.layer (S.frames source.now) n sample) }
-{
-    match source.ask(n, usize::from(sample)) {
-        Ok(value) => value,
-        Err(_) => <S::Value>::lowest(),
-    }
-}
-
-/// The sample of a node at tick `n`; a node that is no sample has none.
+/// The sample of a node at tick `n`; the lowest value stands for a fault. A node that is no sample has none.
 fn sample_of<S: Source>(source: &S, n: usize, node: Node) -> S::Value
     ensures { result ≡ sample_of S.Value.Scale.scale (answer S.layer (S.frames source.now) n) node }
 {
     if is_sample(node.kind) {
-        return sample_at(source, n, node.left);
+        return source
+            .ask(n, usize::from(node.left))
+            .unwrap_or(<S::Value>::lowest());
     }
     <S::Value>::lowest()
 }
@@ -46,13 +38,10 @@ pub(crate) fn settle_all<V: Scale, S: Source<Value = V>>(
     ensures others { OthersKept keeps.old (length nodes.now) memory.old memory.new }
     ensures next { TakenOn V.Scale.scale (answer S.layer (S.frames source.now) n) nodes.now n memory.old memory.new keeps.old keeps.new }
 {
-    for k in 0..nodes.len() {
-        let node = nodes[k];
-        let sample = sample_of(source, n, node);
-        let own = keep_of(keeps, k);
-        let left = operand_of(keeps, node, k, node.left);
-        let right = operand_of(keeps, node, k, node.right);
-        keeps[k] = settle(sample, memory, node, own, left, right, n);
+    for (k, node) in nodes.iter().enumerate() {
+        let mut turn = Turn::of(memory, keeps, *node, k);
+        turn.settle(sample_of(source, n, *node), n);
+        keeps[k] = turn.own;
     }
 }
 

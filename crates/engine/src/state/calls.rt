@@ -75,10 +75,8 @@ impl Core {
         if cramped {
             return Err(TickFault::Room);
         }
-        match ask_all(self.plan.nodes(), source, self.ticks) {
-            Ok(()) => Ok(()),
-            Err(fault) => Err(TickFault::Source(fault)),
-        }
+        ask_all(self.plan.nodes(), source, self.ticks)?;
+        Ok(())
     }
 
     /// Every node, taken on by one tick.

@@ -1,74 +1,44 @@
-use Rattle.std.proofs.Common.{◌≡◌, suc, ◌≤◌, false, length, get_or, sym, subst, ⊎_elim}
+use Rattle.std.proofs.Common.{◌≡◌, suc, ◌+◌, false, get_or, set, sym, subst, ⊎_elim, rules}
 use Rattle.std.proofs.lemmas.Bool.{both_ways}
-use Rattle.queue.specs.Regions.{Stands, Apart}
 use Rattle.scale.proofs.Bounding.{bounds}
 use Rattle.source.specs.Frames.{answer}
 use Rattle.table.specs.declared.kind.Kind.{Kind}
 use Rattle.table.specs.Kinds.{at_once}
 use Rattle.table.specs.Tables.{blank}
 use Rattle.settling.proofs.Sorts.{Inner, once_or_later}
-use Rattle.engine.specs.declared.keep.Keep.{Keep}
 use Rattle.engine.specs.Settling.{Settles}
 use Rattle.engine.specs.State.{keep_of}
 use Rattle.engine.specs.Ticking.{Sound, sample_of, operand_of}
-use Rattle.engine.proofs.Allnodes.{going_start, going_on, going_end, going_sound, operand_stands, operand_apart, own_counted}
+use Rattle.engine.proofs.Allnodes.{Going, going_on, going_sound, operand_apart}
 use Rattle.engine.proofs.tick.settle_all.Goals as goal
 
 late_inner : (k : Kind) → at_once k ≡ false → Inner k
 late_inner k e = ⊎_elim (λ now. absurd (both_ways _ e now)) (λ later. later.2) (once_or_later k)
 
-pub loop-k-init : goal.loop-k-init
-loop-k-init g c = let a = c.args in let s = g.V.Scale.scale in going_start s (bounds s g.met.V.Scale.order) (answer g.S.Source.layer (g.S.Source.frames a.source.now) a.n) a.nodes.now a.n a.memory.now a.keeps.now c.requires.sound
-
-pub settle-requires : goal.settle-requires
-settle-requires g c =
-    let a = c.args in
-    let s = g.V.Scale.scale in
+pub settle-requires-clause-apart : goal.settle-requires-clause-apart
+settle-requires-clause-apart g c e =
+    let x = get_or c.args.nodes.now c.loop-k.k blank in
+    let turn = c.of-turn.ensures in
     let h = c.loop-k-test.true in
-    let x = get_or a.nodes.now c.loop-k.k blank in
-    let below = c.requires.sound.below c.loop-k.k h in
-    let size = length c.loop-k.memory in
-    let at : (u v : Keep) → u ≡ v → Stands (length a.memory.now) v.from v.to v.at → Stands size u.from u.to u.at =
-    λ u v e st. subst (λ (w : Keep). Stands size w.from w.to w.at) (sym e) (subst (λ n. Stands n v.from v.to v.at) (sym c.loop-k.auto.memory) st) in
-    let beside : (u v w z : Keep) → u ≡ v → w ≡ z → Apart v.from v.to z.from z.to → Apart u.from u.to w.from w.to =
-    λ u v w z e f ap. subst (λ (i : Keep). Apart i.from i.to w.from w.to) (sym e) (subst (λ (i : Keep). Apart v.from v.to i.from i.to) (sym f) ap) in
-    record {
-      own = at _ _ c.keep_of-own.ensures (c.loop-k.invariant.stands c.loop-k.k h);
-      left = at _ _ c.operand_of-left.ensures (operand_stands s (bounds s g.met.V.Scale.order) (answer g.S.Source.layer (g.S.Source.frames a.source.now) a.n) a.nodes.now a.n a.memory.now a.keeps.now c.requires.sound c.loop-k.k c.loop-k.memory c.loop-k.keeps c.loop-k.invariant h x.left (λ e. (below e).0));
-      right = at _ _ c.operand_of-right.ensures (operand_stands s (bounds s g.met.V.Scale.order) (answer g.S.Source.layer (g.S.Source.frames a.source.now) a.n) a.nodes.now a.n a.memory.now a.keeps.now c.requires.sound c.loop-k.k c.loop-k.memory c.loop-k.keeps c.loop-k.invariant h x.right (λ e. (below e).1));
-      apart = λ e. let inner = late_inner x.kind e in (
-        beside _ _ _ _ c.keep_of-own.ensures c.operand_of-left.ensures (operand_apart s (bounds s g.met.V.Scale.order) (answer g.S.Source.layer (g.S.Source.frames a.source.now) a.n) a.nodes.now a.n a.memory.now a.keeps.now c.requires.sound c.loop-k.k c.loop-k.memory c.loop-k.keeps c.loop-k.invariant h x.left inner (below inner).0),
-        beside _ _ _ _ c.keep_of-own.ensures c.operand_of-right.ensures (operand_apart s (bounds s g.met.V.Scale.order) (answer g.S.Source.layer (g.S.Source.frames a.source.now) a.n) a.nodes.now a.n a.memory.now a.keeps.now c.requires.sound c.loop-k.k c.loop-k.memory c.loop-k.keeps c.loop-k.invariant h x.right inner (below inner).1),
-      );
-      small = (c.requires.small, subst (λ (u : Keep). u.count ≤ a.n) (sym c.keep_of-own.ensures) (own_counted s (bounds s g.met.V.Scale.order) (answer g.S.Source.layer (g.S.Source.frames a.source.now) a.n) a.nodes.now a.n a.memory.now a.keeps.now c.requires.sound c.loop-k.k c.loop-k.memory c.loop-k.keeps c.loop-k.invariant h));
-      window = c.requires.sound.windows c.loop-k.k h;
-    }
+    let inner = late_inner x.kind (rw turn.node at e) in
+    let below = c.requires.sound.below c.loop-k.k h inner in
+    let apart = operand_apart (bounds _ g.met.V.Scale.order) c.requires.sound c.loop-k.invariant h in
+    rw (turn.own, turn.left, turn.right) (apart x.left inner below.0, apart x.right inner below.1)
 
 pub loop-k-preserved : goal.loop-k-preserved
 loop-k-preserved g c =
     let a = c.args in
     let s = g.V.Scale.scale in
-    let x = get_or a.nodes.now c.loop-k.k blank in
+    let k = c.loop-k.k in
     let qs = c.loop-k.keeps in
+    let x = get_or a.nodes.now k blank in
+    let turn = c.of-turn.ensures in
     let answers = answer g.S.Source.layer (g.S.Source.frames a.source.now) a.n in
-    let S : g.row.V.Denot → Keep → Keep → Keep → Type 0 = λ v q l r. Settles s v c.loop-k.memory c.settle.new.memory x q c.settle.result l r a.n in
-    let own = keep_of qs c.loop-k.k in
-    let left = operand_of qs x c.loop-k.k x.left in
-    let right = operand_of qs x c.loop-k.k x.right in
-    let step : S (sample_of s answers x) own left right =
-    subst (λ v. S v own left right) c.sample_of-sample.ensures
-    (subst (λ q. S c.sample_of-sample.result q left right) c.keep_of-own.ensures
-    (subst (λ l. S c.sample_of-sample.result c.keep_of-own.result l right) c.operand_of-left.ensures
-    (subst (λ r. S c.sample_of-sample.result c.keep_of-own.result c.operand_of-left.result r) c.operand_of-right.ensures c.settle.ensures))) in
-    going_on s (bounds s g.met.V.Scale.order) (answer g.S.Source.layer (g.S.Source.frames a.source.now) a.n) a.nodes.now a.n a.memory.now a.keeps.now c.requires.sound c.loop-k.k c.loop-k.memory c.loop-k.keeps c.loop-k.invariant c.loop-k-test.true c.settle.new.memory c.settle.result step c.loop-k.auto.keeps c.loop-k.auto.memory
+    let step : Settles s (sample_of s answers x) c.loop-k.memory c.settle.new.self.memory.now x (keep_of qs k) c.settle.new.self.own (operand_of qs x k x.left) (operand_of qs x k x.right) a.n =
+    rw (c.sample_of.ensures, turn.memory, turn.own, turn.left, turn.right, turn.node) at c.settle.ensures.settles in
+    subst (λ m. Going s answers a.nodes.now a.n a.memory.now a.keeps.now (k + 1) m (set qs k c.settle.new.self.own)) (search rules)
+    (going_on (bounds s g.met.V.Scale.order) c.requires.sound c.loop-k.invariant c.loop-k-test.true step c.loop-k.auto.keeps c.loop-k.auto.memory)
 
-pub returns : goal.returns
-returns g c =
-    let a = c.args in
-    let s = g.V.Scale.scale in
-    record {
-      sound = subst (λ z. Sound a.nodes.now c.loop-k.keeps z (suc a.n)) (sym c.loop-k.auto.memory) (going_sound s (bounds s g.met.V.Scale.order) (answer g.S.Source.layer (g.S.Source.frames a.source.now) a.n) a.nodes.now a.n a.memory.now a.keeps.now c.requires.sound c.loop-k.k c.loop-k.memory c.loop-k.keeps c.loop-k.invariant c.loop-k.auto.keeps);
-      regions = c.loop-k.invariant.regions;
-      others = c.loop-k.invariant.others;
-      next = going_end s (bounds s g.met.V.Scale.order) (answer g.S.Source.layer (g.S.Source.frames a.source.now) a.n) a.nodes.now a.n a.memory.now a.keeps.now c.requires.sound c.loop-k.k c.loop-k.memory c.loop-k.keeps c.loop-k.invariant c.loop-k-test.false;
-    }
+pub returns-clause-sound : goal.returns-clause-sound
+returns-clause-sound g c =
+    subst (λ z. Sound c.args.nodes.now c.loop-k.keeps z (suc c.args.n)) (sym c.loop-k.auto.memory) (going_sound (bounds _ g.met.V.Scale.order) c.requires.sound c.loop-k.invariant c.loop-k.auto.keeps)

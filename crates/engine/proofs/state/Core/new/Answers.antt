@@ -1,6 +1,6 @@
 use Rattle.std.proofs.Common.{arith}
 use Rattle.table_check.specs.Plans.{table_of}
-use Rattle.engine.proofs.Laying.{laid_rising, laid_inside, laid_ordered, laid_roomy, laid_holds, laid_begins, laid_unsettled}
+use Rattle.engine.proofs.Laying.{laid_rising, laid_inside, laid_stands, laid_roomy, laid_unsettled}
 use Rattle.engine.proofs.state.Core.new.Goals as goal
 
 pub invariant_of-result : goal.invariant_of-result
@@ -15,9 +15,7 @@ invariant_of-result c =
       few = omega arith;
       rising = laid_rising t ps qs many are laid;
       inside = laid_inside t ps qs many are laid;
-      ordered = laid_ordered t ps qs many are laid;
+      stands = laid_stands t ps qs many are laid;
       roomy = laid_roomy t ps qs many are laid;
-      holds = laid_holds t ps qs many are laid;
-      begins = laid_begins t ps qs many are laid;
       counted = λ k. laid_unsettled t ps qs many are laid k 0;
     }

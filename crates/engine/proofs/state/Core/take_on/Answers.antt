@@ -1,44 +1,27 @@
-use Rattle.std.proofs.Common.{◌≡◌, suc, ◌+◌, length, take, sym, refl, ap, subst, arith}
+use Rattle.std.proofs.Common.{◌≡◌, ◌+◌, length, take, sym, refl, ap, subst, arith}
 use Rattle.source.specs.Frames.{answer}
 use Rattle.table.specs.Places.{need as need_of}
 use Rattle.engine.specs.Represents.{monitored}
 use Rattle.engine.specs.State.{AllAt, AllEnds}
 use Rattle.engine.specs.Ticking.{Sound, Asked, Ticked}
 use Rattle.table_check.proofs.Lawful.{plan_accepted}
-use Rattle.engine.proofs.Cores.{queues_sound, still_rising, still_inside, still_ordered, still_roomy, still_holds, still_begins, still_counted}
+use Rattle.engine.proofs.Cores.{queues_sound, still_rising, still_stands, still_counted}
 use Rattle.engine.proofs.Wholetick.{beyond_kept}
 use Rattle.engine.proofs.state.Core.take_on.Goals as goal
 
-pub tick_all-requires : goal.tick_all-requires
-tick_all-requires g c =
+pub tick_all-requires-clause-sound : goal.tick_all-requires-clause-sound
+tick_all-requires-clause-sound g c =
     let core = c.args.self.now in
-    record {
-      small = c.requires.few;
-      enough = omega (arith, ap length c.nodes.ensures, (plan_accepted core.plan).few_nodes);
-      sound = subst (λ ns. Sound ns (take (length ns) core.keeps) (length c.args.memory.now) core.ticks) (sym c.nodes.ensures) (queues_sound core (length c.args.memory.now) c.requires.room (omega arith));
-      inside = λ k h. omega (arith, core.inside k (omega (arith, ap length c.nodes.ensures)), c.requires.room);
-    }
+    subst (λ ns. Sound ns (take (length ns) core.keeps) (length c.args.memory.now) core.ticks) (sym c.nodes.ensures) (queues_sound core (length c.args.memory.now) c.requires.room (omega arith))
 
-pub invariant_of-self : goal.invariant_of-self
-invariant_of-self g c =
-    let core = c.args.self.now in
-    let qs = c.tick_all.new.keeps in
-    let same = c.tick_all.ensures.regions in
-    let nodes = c.nodes.result.now in
-    let space = length c.tick_all.new.memory in
-    let n = suc core.ticks in
-    let sound = c.tick_all.ensures.sound in
-    let is = c.nodes.ensures in
-    record {
-      few = omega (arith, c.requires.few);
-      rising = still_rising core qs same;
-      inside = still_inside core qs same;
-      ordered = still_ordered core qs same;
-      roomy = still_roomy core qs same;
-      holds = still_holds core qs same nodes space n sound is;
-      begins = still_begins core qs same nodes space n sound is;
-      counted = still_counted core qs same nodes space n sound is (core.ticks + 1) (omega arith);
-    }
+pub invariant_of-self-clause-rising : goal.invariant_of-self-clause-rising
+invariant_of-self-clause-rising g c = still_rising c.args.self.now c.tick_all.new.keeps c.tick_all.ensures.regions
+
+pub invariant_of-self-clause-stands : goal.invariant_of-self-clause-stands
+invariant_of-self-clause-stands g c = still_stands c.args.self.now c.tick_all.new.keeps c.tick_all.ensures.regions c.nodes.result.now _ _ c.tick_all.ensures.sound c.nodes.ensures
+
+pub invariant_of-self-clause-counted : goal.invariant_of-self-clause-counted
+invariant_of-self-clause-counted g c = still_counted c.args.self.now c.tick_all.new.keeps c.tick_all.ensures.regions c.nodes.result.now _ _ c.tick_all.ensures.sound c.nodes.ensures (c.args.self.now.ticks + 1) (omega arith)
 
 pub returns : goal.returns
 returns g c =

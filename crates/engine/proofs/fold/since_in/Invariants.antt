@@ -1,7 +1,0 @@
-use Rattle.scale.proofs.Bounding.{bounds}
-use Rattle.engine.specs.Kept.{reading}
-use Rattle.engine.proofs.Folding.{SinceSoFar}
-use Rattle.engine.proofs.fold.since_in.Given as goal
-
-abbrev pub invariant-loop-j : goal.invariant-loop-j
-invariant-loop-j g l = SinceSoFar (bounds _ g.met.V.Scale.order) (reading l.other l.memory l.left) (reading l.other l.memory l.right) l.i l.from l.j l.most l.run

@@ -1,0 +1,17 @@
+use Rattle.std.proofs.Common.{ℕ, sym, ap, ◌∙◌, arith, rules}
+use Rattle.scale.proofs.Bounding.{bounds}
+use Rattle.settling.proofs.Folds.{least_none, least_next}
+use Rattle.table.specs.Values.{least_of, least}
+use Rattle.engine.specs.Kept.{reading}
+use Rattle.engine.proofs.Folding.{range_folded}
+use Rattle.engine.proofs.standing.Standing.least.Goals as goal
+
+pub returns : goal.returns
+returns g c =
+    let s = g.V.Scale.scale in
+    let o = bounds s g.met.V.Scale.order in
+    let a = c.args.a in
+    let f : ℕ → g.row.V.Denot = reading c.args.other c.args.self.now.memory.now c.args.self.now.keep in
+    range_folded _ _ (λ m p. s.lesser m (f p)) (λ m p n f' call. search rules) _ _ _ c.fold.ensures.ran
+    (λ b. least s a b f) (c.highest.ensures ∙ sym (least_none o f a a (omega arith))) (least_next o f a)
+    ∙ ap (least_of s f a) (omega arith)
