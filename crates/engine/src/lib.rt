@@ -17,6 +17,7 @@ mod settle;
 mod standing;
 pub mod state;
 mod tick;
+pub mod ticks;
 mod turn;
 
 pub use settle::agree;

@@ -5,6 +5,7 @@ ghost use Rattle.scale.specs.Order.{same};
 ghost use Rattle.table.specs.Kinds.{at_once};
 ghost use Rattle.engine.specs.Settling.{Settles};
 
+use super::ticks::Tick;
 use super::turn::Turn;
 use scale::Scale;
 use table::kind::Sort;
@@ -30,15 +31,15 @@ impl<'m, V: Scale> Turn<'m, V> {
         self.keep_next(value);
     }
 
-    /// Any other node: positions upward, while both workings-out agree, up to the one of tick `n`.
-    fn settle_later(&mut self, sample: V, n: usize)
+    /// Any other node: positions upward, while both workings-out agree, up to the tick's own.
+    fn settle_later(&mut self, sample: V, tick: Tick)
         requires apart { Apart self.old.own.from self.old.own.to self.old.left.from self.old.left.to × Apart self.old.own.from self.old.own.to self.old.right.from self.old.right.to }
-        requires small { (n < 2 ^ 24) × (self.old.own.count ≤ n) }
+        requires behind { self.old.own.count ≤ tick.number }
         requires later { at_once self.old.node.kind ≡ false }
-        ensures settles { Settles V.scale sample self.old.memory.now self.new.memory.now self.old.node self.old.own self.new.own self.old.left self.old.right n }
+        ensures settles { Settles V.scale sample self.old.memory.now self.new.memory.now self.old.node self.old.own self.new.own self.old.left self.old.right tick.number }
         ensures lends { self.new.memory.ghost_name ≡ self.old.memory.ghost_name }
     {
-        for i in self.own.count..n + 1 {
+        for i in self.own.count..tick.number + 1 {
             let low = self.work_out(sample, i, V::lowest());
             let high = self.work_out(sample, i, V::highest());
             if !agree(low, high) {
@@ -48,16 +49,16 @@ impl<'m, V: Scale> Turn<'m, V> {
         }
     }
 
-    /// The node's queue, taken on by tick `n`.
-    pub(crate) fn settle(&mut self, sample: V, n: usize)
+    /// The node's queue, taken on by a tick.
+    pub(crate) fn settle(&mut self, sample: V, tick: Tick)
         requires apart { at_once self.old.node.kind ≡ false → Apart self.old.own.from self.old.own.to self.old.left.from self.old.left.to × Apart self.old.own.from self.old.own.to self.old.right.from self.old.right.to }
-        requires small { (n < 2 ^ 24) × (self.old.own.count ≤ n) }
-        ensures settles { Settles V.scale sample self.old.memory.now self.new.memory.now self.old.node self.old.own self.new.own self.old.left self.old.right n }
+        requires behind { self.old.own.count ≤ tick.number }
+        ensures settles { Settles V.scale sample self.old.memory.now self.new.memory.now self.old.node self.old.own self.new.own self.old.left self.old.right tick.number }
         ensures lends { self.new.memory.ghost_name ≡ self.old.memory.ghost_name }
     {
         match self.node.kind.shape().sort {
             Sort::Leaf | Sort::Back => self.settle_now(sample),
-            Sort::Point | Sort::Ahead => self.settle_later(sample, n),
+            Sort::Point | Sort::Ahead => self.settle_later(sample, tick),
         }
     }
 }

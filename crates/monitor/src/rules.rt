@@ -8,6 +8,7 @@ ghost use Rattle.monitor.specs.Issuing.{TickIssued};
 
 use super::tell::tell_all;
 use engine::state::Core;
+use engine::ticks::Tick;
 use outbox::Outbox;
 use scale::Scale;
 
@@ -35,13 +36,8 @@ pub(crate) fn issue<V: Scale, O: Outbox<V>>(
     ensures { TickIssued O.Outbox.waiting O.Outbox.free outbox.old outbox.new V.Scale.scale (monitored core.now).rules olds memory.now core.now.keeps (core.now.ticks - 1) }
 {
     let (rules, count) = core.plan().copy_rules();
-    tell_all(
-        rules,
-        count,
-        memory,
-        core.keeps(),
-        olds,
-        core.ticks() - 1,
-        outbox,
-    );
+    let tick = Tick {
+        number: core.ticks() - 1,
+    };
+    tell_all(rules, count, memory, core.keeps(), olds, tick, outbox);
 }

@@ -12,6 +12,7 @@ use super::super::fault::TickFault;
 use super::super::keep::{Keep, keep_of};
 use super::super::lay::lay_out;
 use super::super::tick::tick_all;
+use super::super::ticks::Tick;
 use super::Core;
 use scale::Scale;
 use source::Source;
@@ -85,9 +86,9 @@ impl Core {
         requires few { self.old.ticks < 16777216 }
         ensures { Advanced V.Scale.scale (answer S.layer (S.frames source.now) self.old.ticks) self.old self.new memory.old memory.new }
     {
-        let n = self.ticks;
-        tick_all(self.plan.nodes(), source, n, memory, &mut self.keeps);
-        self.ticks = n + 1;
+        let tick = Tick { number: self.ticks };
+        tick_all(self.plan.nodes(), source, tick, memory, &mut self.keeps);
+        self.ticks += 1;
     }
 
     /// One tick: the samples are asked for first, and then every node is taken on. `cramped` says that there is too little

@@ -7,8 +7,8 @@ use Rattle.engine.specs.Ticking.{operand_of}
 use Rattle.engine.proofs.Allends.{Storing, operand_room, still_at, storing_set}
 use Rattle.engine.proofs.ends.ends_all.Goals as goal
 
-pub ends-ends-requires-clause-inside : goal.ends-ends-requires-clause-inside
-ends-ends-requires-clause-inside g c =
+pub ends-ends-requires : goal.ends-ends-requires
+ends-ends-requires g c =
     let a = c.args in
     let k = c.loop-k.k in
     let h = c.loop-k-test.true in
@@ -29,11 +29,11 @@ loop-k-preserved g c =
     let q = keep_of a.keeps.now k in
     let v = c.ends-ends.result.0 in
     let w = c.ends-ends.result.1 in
-    let found = ends_from s c.loop-k.memory x q (operand_of a.keeps.now x k x.left) (operand_of a.keeps.now x k x.right) a.n in
+    let found = ends_from s c.loop-k.memory x q (operand_of a.keeps.now x k x.left) (operand_of a.keeps.now x k x.right) a.tick.number in
     let low : v ≡ found.lower = cc in
     let high : w ≡ found.upper = cc in
     let stored : c.store.new.self.memory.now ≡ set (set c.loop-k.memory q.to v) (q.to + 1) w = cc in
-    subst (Storing s a.nodes.now a.n a.memory.now a.keeps.now (k + 1)) (sym stored ∙ search rules)
+    subst (Storing s a.nodes.now a.tick.number a.memory.now a.keeps.now (k + 1)) (sym stored ∙ search rules)
     (storing_set (bounds s g.met.V.Scale.order) c.requires.sound c.requires.inside c.loop-k.invariant c.loop-k-test.true c.loop-k.auto.memory v w low high)
 
 pub returns-clause-queues : goal.returns-clause-queues

@@ -33,12 +33,12 @@ loop-k-preserved g c =
     let qs = c.loop-k.keeps in
     let x = get_or a.nodes.now k blank in
     let turn = c.of-turn.ensures in
-    let answers = answer g.S.Source.layer (g.S.Source.frames a.source.now) a.n in
-    let step : Settles s (sample_of s answers x) c.loop-k.memory c.settle.new.self.memory.now x (keep_of qs k) c.settle.new.self.own (operand_of qs x k x.left) (operand_of qs x k x.right) a.n =
+    let answers = answer g.S.Source.layer (g.S.Source.frames a.source.now) a.tick.number in
+    let step : Settles s (sample_of s answers x) c.loop-k.memory c.settle.new.self.memory.now x (keep_of qs k) c.settle.new.self.own (operand_of qs x k x.left) (operand_of qs x k x.right) a.tick.number =
     rw (c.sample_of.ensures, turn.memory, turn.own, turn.left, turn.right, turn.node) at c.settle.ensures.settles in
-    subst (λ m. Going s answers a.nodes.now a.n a.memory.now a.keeps.now (k + 1) m (set qs k c.settle.new.self.own)) (search rules)
+    subst (λ m. Going s answers a.nodes.now a.tick.number a.memory.now a.keeps.now (k + 1) m (set qs k c.settle.new.self.own)) (search rules)
     (going_on (bounds s g.met.V.Scale.order) c.requires.sound c.loop-k.invariant c.loop-k-test.true step c.loop-k.auto.keeps c.loop-k.auto.memory)
 
 pub returns-clause-sound : goal.returns-clause-sound
 returns-clause-sound g c =
-    subst (λ z. Sound c.args.nodes.now c.loop-k.keeps z (suc c.args.n)) (sym c.loop-k.auto.memory) (going_sound (bounds _ g.met.V.Scale.order) c.requires.sound c.loop-k.invariant c.loop-k.auto.keeps)
+    subst (λ z. Sound c.args.nodes.now c.loop-k.keeps z (suc c.args.tick.number)) (sym c.loop-k.auto.memory) (going_sound (bounds _ g.met.V.Scale.order) c.requires.sound c.loop-k.invariant c.loop-k.auto.keeps)

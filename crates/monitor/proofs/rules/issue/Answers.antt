@@ -14,5 +14,4 @@ tell_all-requires g c =
       stand =
           subst (λ qs. RulesStand copy.0 copy.1 qs space (c.ticks.result - 1)) (sym c.keeps.ensures)
           (subst (λ n. RulesStand copy.0 copy.1 core.keeps space (n - 1)) (sym c.ticks.ensures.value) (rules_stand core space copy.0 copy.1 c.requires.room (c.copy_rules-count.ensures.rules ∙ ap (λ p. (table_of p).rules) c.plan.ensures) (omega (arith, c.copy_rules-count.ensures.few)) c.requires.ticked));
-      small = omega (arith, c.ticks.ensures.bound, c.ticks.ensures.value, c.requires.ticked);
     }

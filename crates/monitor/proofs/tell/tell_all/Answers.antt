@@ -7,7 +7,7 @@ pub loop-r-preserved : goal.loop-r-preserved
 loop-r-preserved g c =
     let a = c.args in
     let l = c.loop-r in
-    below_more g.O.Outbox.waiting g.O.Outbox.free g.V.Scale.scale a.memory.now a.keeps.now a.rules a.olds a.n a.outbox.now l.outbox c.tell_rule.new.outbox l.r c.keep_of-keep.result c.keep_of-keep.ensures l.invariant c.tell_rule.ensures
+    below_more g.O.Outbox.waiting g.O.Outbox.free g.V.Scale.scale a.memory.now a.keeps.now a.rules a.olds a.tick.number a.outbox.now l.outbox c.tell_rule.new.outbox l.r c.keep_of-keep.result c.keep_of-keep.ensures l.invariant c.tell_rule.ensures
 
 pub returns : goal.returns
 returns g c =
@@ -18,5 +18,5 @@ returns g c =
     let f = g.O.Outbox.free in
     let long : a.count ≤ length a.rules = omega (arith, c.requires.few) in
     let end : l.r ≡ a.count = omega (arith, c.loop-r-test.false, l.auto) in
-    below_all w f s a.memory.now a.keeps.now a.rules a.olds a.n a.outbox.now (bounds s g.met.V.Scale.order) a.count long c.requires.stand l.outbox
-    (subst (OfferedBelow w f s a.memory.now a.keeps.now a.rules a.olds a.n a.outbox.now l.outbox) end l.invariant)
+    below_all w f s a.memory.now a.keeps.now a.rules a.olds a.tick.number a.outbox.now (bounds s g.met.V.Scale.order) a.count long c.requires.stand l.outbox
+    (subst (OfferedBelow w f s a.memory.now a.keeps.now a.rules a.olds a.tick.number a.outbox.now l.outbox) end l.invariant)
