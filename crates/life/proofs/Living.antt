@@ -23,10 +23,12 @@ module _ {V O C : Type 0} (s : Scale V) (ask : ℕ → ℕ → Result V Fault) (
     pub run : Run s ask b begun made x
     pub named : Named names after from made c l
 
-  pub living_start : Living 0 before begun from None
+module _ {V O C : Type 0} {s : Scale V} {ask : ℕ → ℕ → Result V Fault} {b : Box V O} {names : C → Option (Answer V) → Option Call} {after : C → Option (Answer V) → C} {begun : State V O} {from : C} {before : Log V} where
+  pub living_start : Living s ask b names after begun from before 0 before begun from None
   living_start = record { made = []; logged = sym (append-nil before); counted = refl; run = start; named = begins }
 
-  pub living_on : {count : ℕ} {log log' : Log V} {x y : State V O} {c c' : C} {l : Option (Answer V)} {o : Option Call} {k : Call} {a : Answer V} → Living count log x c l → o ≡ Some k → o ≡ names c l → c' ≡ after c l → Step s ask b x y k a → log' ≡ log ++ (k, a) ∷ [] → Living (count + 1) log' y c' (Some a)
+  -- one call more, as the caller named it
+  pub living_on : {count : ℕ} {log log' : Log V} {x y : State V O} {c c' : C} {l : Option (Answer V)} {o : Option Call} {k : Call} {a : Answer V} → Living s ask b names after begun from before count log x c l → o ≡ Some k → o ≡ names c l → c' ≡ after c l → Step s ask b x y k a → log' ≡ log ++ (k, a) ∷ [] → Living s ask b names after begun from before (count + 1) log' y c' (Some a)
   living_on {k = k} {a = a} g is named moved step grown = record {
     made = g.made ++ (k, a) ∷ [];
     logged = grown ∙ ap (λ e. e ++ (k, a) ∷ []) g.logged ∙ append_assoc before g.made ((k, a) ∷ []);
@@ -36,7 +38,7 @@ module _ {V O C : Type 0} (s : Scale V) (ask : ℕ → ℕ → Result V Fault) (
   }
 
   -- a life that ended as the caller ended, or with the log's room
-  pub lived : (o : Lattice s) {p : Plan} {memory : List V} {room count : ℕ} {log : Log V} {x : State V O} {c to : C} {l : Option (Answer V)} → Begun s p memory begun.outbox begun → Living count log x c l → ((names c l ≡ None) × (to ≡ after c l)) ⊎ ((count ≡ room) × (to ≡ c)) → Life s ask b names after p memory begun.outbox room from to before log x
+  pub lived : Lattice s → {p : Plan} {memory : List V} {room count : ℕ} {log : Log V} {x : State V O} {c to : C} {l : Option (Answer V)} → Begun s p memory begun.outbox begun → Living s ask b names after begun from before count log x c l → ((names c l ≡ None) × (to ≡ after c l)) ⊎ ((count ≡ room) × (to ≡ c)) → Life s ask b names after p memory begun.outbox room from to before log x
   lived o {c = c} {l = l} beg g end = record {
     made = g.made;
     logged = g.logged;
@@ -48,5 +50,5 @@ module _ {V O C : Type 0} (s : Scale V) (ask : ℕ → ℕ → Result V Fault) (
   }
 
 -- the state after set-up
-pub begun_by : {V O : Type 0} (s : Scale V) (p : Plan) (memory : List V) (x : Monitor V) (o : O) → SetUp s p memory x → Begun s p memory o (state_of x o)
-begun_by s p memory x o e = record { plan = e.plan; ticks = (e.every (λ n c. s.lowest)).ticks; every = e.every; lent = e.lent; outbox = refl }
+pub begun_by : {V O : Type 0} {s : Scale V} {p : Plan} {memory : List V} {x : Monitor V} {o : O} → SetUp s p memory x → Begun s p memory o (state_of x o)
+begun_by {s = s} e = record { plan = e.plan; ticks = (e.every (λ n c. s.lowest)).ticks; every = e.every; lent = e.lent; outbox = refl }

@@ -16,7 +16,7 @@ use Rattle.engine.specs.Kept.{value_in}
 use Rattle.engine.specs.State.{At, keep_of, AllAt}
 use Rattle.engine.proofs.Nodestep.{queued}
 use Rattle.monitor.specs.Issuing.{queue_runs, Offered, RulesStand, TickIssued}
-use Rattle.monitor.proofs.Putting.{offered_none, offered_more, all_issued}
+use Rattle.monitor.proofs.Putting.{offered_more, all_issued}
 
 module _ {S V : Type 0} (waiting : S → List (Record V)) (free : S → ℕ) (s : Scale V) (memory : List V) (qs : List Keep) (rules olds : List ℕ) (n : ℕ) (before : S) where
   -- the records of rule r, as the queue of its node has them
