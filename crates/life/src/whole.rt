@@ -16,6 +16,9 @@ use source::Source;
 use std::alloc::{AllocError, Global};
 use table_check::plan::Plan;
 
+// What a life is lent is not one struct: all parts but the plan are borrowed apart and come back changed, so that the
+// contract would name each of them in any case.
+
 /// Sets up one monitor, makes the calls that the caller names until it ends or the log's room is used, writes each call with
 /// its answer into the log, and hands the monitor back.
 pub fn live_on<'m, V: Scale, S: Source<Value = V>, O: Outbox<V>, C: Caller<Option<Answer<V>>>>(

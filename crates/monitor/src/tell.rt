@@ -51,6 +51,7 @@ fn tell_rule<V: Scale, O: Outbox<V>>(
     }
     let mut first = old;
     let mut value = read(memory, keep, old, V::lowest());
+    // By position, since positions go round in the queue and lie side by side in no slice.
     for p in old + 1..keep.count {
         let next = read(memory, keep, p, V::lowest());
         if agree(value, next) {
@@ -77,6 +78,7 @@ pub(crate) fn tell_all<V: Scale, O: Outbox<V>>(
     requires stand { RulesStand rules count keeps.now (length memory.now) tick.number }
     ensures { TickIssued O.Outbox.waiting O.Outbox.free outbox.old outbox.new V.Scale.scale (take count rules) olds memory.now keeps.now tick.number }
 {
+    // By index: a rule's number stands in its records, and names both its node and its count.
     for r in 0..count {
         let keep = keep_of(keeps, rules[r] as usize);
         tell_rule(memory, keep, r as u8, olds[r], tick, outbox);

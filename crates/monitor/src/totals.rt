@@ -16,6 +16,7 @@ pub struct RuleTotal {
 #[derive(Clone, Copy)]
 pub struct Totals {
     ticks: usize,
+    // An array and its count, since totals are plain data that can be copied; there are at most 16 rules.
     rules: [RuleTotal; 16],
     count: usize,
     ghost few: { count ≤ 16 },
