@@ -30,6 +30,7 @@ const COMPARATORS_LAYER: u8 = 3;
 #[derive(Drop)]
 pub struct Comparators<S> {
     below: S,
+    /// In the value itself, so that to add one needs no allocator and has no other refusal.
     held: ArrayVec<Comparator, 32>,
 }
 

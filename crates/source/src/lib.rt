@@ -23,7 +23,8 @@ pub trait Source {
     /// The layer that its own faults name.
     const LAYER: u8;
 
-    /// The layer constant as contracts name it, since a clause cannot name an associated constant.
+    /// The layer constant as contracts name it: in an impl with a lifetime, as that of `Rows`, the check cannot tie a ghost
+    /// member to a constant of its own name.
     ghost layer: { ℕ };
 
     /// Its length, its width, and what it holds at each tick and sample.
