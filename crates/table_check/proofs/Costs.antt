@@ -14,7 +14,7 @@ use Rattle.table.specs.Tables.{Table, blank}
 use Rattle.table.specs.Lags.{lags}
 use Rattle.table.specs.Places.{most, total, places, need, burst, slack}
 use Rattle.table.specs.Refusals.{any, used}
-use Rattle.table_check.specs.Judging.{of_lists, by_node, by_nodes, by_rules, bursts, is_parent}
+use Rattle.table_check.specs.Judging.{of_lists, wanted_by, by_nodes, by_rules, rule_burst, is_parent}
 
 -- what takes in one element of a list after the other is a fold
 module _ {X Y : Type 0} (f : Y → X → Y) (r : ℕ → Y) (xs : List X) (d : X) (step : (i : ℕ) → i < length xs → r (suc i) ≡ f (r i) (get_or xs i d)) where
@@ -59,13 +59,13 @@ module _ (nodes : List Node) (ls : List Lag) (rules : List ℕ) (are : ls ≡ la
   unfolding places
   kept_places k =
       let t = of_lists nodes rules in
-      let parents : most (length nodes) (λ j. by_node (lags nodes) k (get_or nodes j blank)) ≡ by_nodes (lags nodes) k nodes = most_listed (by_node (lags nodes) k) nodes blank in
+      let parents : most (length nodes) (λ j. wanted_by (lags nodes) k (get_or nodes j blank)) ≡ by_nodes (lags nodes) k nodes = most_listed (wanted_by (lags nodes) k) nodes blank in
       let own : most (length rules) (λ r. cond (eqb (get_or rules r 0) k) (slack t k) 0) ≡ by_rules (lags nodes) k rules = most_where (length rules) (λ r. eqb (get_or rules r 0) k) (slack t k) ∙ ap (λ b. cond b (slack t k) 0) (any_listed (λ r. eqb r k) rules 0) in
       ap (λ l. 1 + max (by_nodes l k nodes) (by_rules l k rules)) are ∙ (λ i. 1 + max (sym parents i) (sym own i))
 
-  pub whole_burst : sum_by (bursts ls) rules ≡ burst (of_lists nodes rules)
+  pub whole_burst : sum_by (rule_burst ls) rules ≡ burst (of_lists nodes rules)
   unfolding burst
-  whole_burst = ap (λ l. sum_by (bursts l) rules) are ∙ sym (total_listed (bursts (lags nodes)) rules 0)
+  whole_burst = ap (λ l. sum_by (rule_burst l) rules) are ∙ sym (total_listed (rule_burst (lags nodes)) rules 0)
 
 -- the places that stand first in an array are all that the memory is for
 pub whole_need : (nodes : List Node) (rules xs : List ℕ) → length nodes ≤ length xs → ((k : ℕ) → k < length nodes → get_or xs k 0 ≡ places (of_lists nodes rules) k) → let part = take (length nodes - 0) xs in sum part + 2 * length part ≡ need (of_lists nodes rules)

@@ -50,20 +50,20 @@ module _ (lags : List Lag) (k : ℕ) where
       0
 
   -- and on either side
-  abbrev pub by_node : Node → ℕ
-  by_node x = max (wanted x Left) (wanted x Right)
+  abbrev pub wanted_by : Node → ℕ
+  wanted_by x = max (wanted x Left) (wanted x Right)
 
   -- the most that one of these nodes wants of it
   abbrev pub by_nodes : List Node → ℕ
-  by_nodes nodes = fold (λ most x. max most (by_node x)) 0 nodes
+  by_nodes nodes = fold (λ most x. max most (wanted_by x)) 0 nodes
 
   -- what the rules want of it, if one of them names it
   abbrev pub by_rules : List ℕ → ℕ
   by_rules rules = cond (list_any (λ r. r == k) rules) ((lag_at k).worst - (lag_at k).best) 0
 
 -- what a rule of node k adds to the burst
-abbrev pub bursts : List Lag → (k : ℕ) → ℕ
-bursts lags k = let lag = slice_index_or lags k no_lag in lag.worst - lag.best + 1
+abbrev pub rule_burst : List Lag → (k : ℕ) → ℕ
+rule_burst lags k = let lag = slice_index_or lags k no_lag in lag.worst - lag.best + 1
 
 -- the first of two findings
 abbrev pub or_else : Option TableFault → Option TableFault → Option TableFault

@@ -5,7 +5,7 @@ ghost use Rattle.table.specs.Lags.{no_lag, lag_of, greatest_operand};
 ghost use Rattle.table.specs.Refusals.{first, lag_tests};
 
 use table::fault::TableFault;
-use table::kind::Sort;
+use table::kind::{Kind, Sort};
 use table::node::{Lag, Node};
 
 /// Known at its own tick.
@@ -16,6 +16,17 @@ pub(crate) fn lag_at(lags: &[Lag], k: u16) -> Lag
     ensures { result ≡ slice_index_or lags.now k no_lag }
 {
     lags.get(usize::from(k)).copied().unwrap_or(AT_ONCE)
+}
+
+/// The greatest worst lag of the operands that a node of this kind has.
+pub(crate) fn worst_operand(kind: Kind, left: Lag, right: Lag) -> u16
+    ensures { result ≡ greatest_operand kind left.worst right.worst }
+{
+    if kind.shape().binary {
+        left.worst.max(right.worst)
+    } else {
+        left.worst
+    }
 }
 
 /// The lag of a node from those of its operands, or the first of the faults that come with it.
@@ -35,11 +46,7 @@ pub(crate) fn judge_lag(node: &Node, own: u8, left: Lag, right: Lag) -> Result<L
     } else {
         left.best
     };
-    let worst = if shape.binary {
-        left.worst.max(right.worst)
-    } else {
-        left.worst
-    };
+    let worst = worst_operand(node.kind, left, right);
     match shape.sort {
         Sort::Leaf => Ok(AT_ONCE),
         Sort::Back if worst > 0 => Err(TableFault::LateOperand(own)),

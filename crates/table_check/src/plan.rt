@@ -7,8 +7,8 @@ ghost use Rattle.table.specs.Refusals.{passes};
 use super::judge::Judged;
 use super::rules::Named;
 
-/// A table that passed the check, with its lags, places, need and burst. Only the check makes one. It is copied and needs
-/// no heap: a table has at most 64 nodes and 16 rules, so it stands in arrays with as many of them as there are.
+/// A table that passed the check, with its lags, places, need and burst. Only the check makes one.
+// Arrays, since a table has at most 64 nodes and 16 rules, and a monitor's copy of its plan needs no heap.
 #[derive(Clone, Copy)]
 pub struct Plan {
     judged: Judged,

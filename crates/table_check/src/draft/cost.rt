@@ -1,10 +1,10 @@
 //! What a table costs: the places of each node's queue, the memory that they need, and the most records of a tick.
 ghost use Rattle.std.specs.Prelude.{◌≡◌, ℕ, ◌+◌, ◌-◌, ◌*◌, ◌^◌, ◌<◌, ◌≤◌, length, slice_index, sum};
 ghost use Rattle.table_check.specs.Drafts.{of_draft};
-ghost use Rattle.table_check.specs.Judging.{wanted, by_node, by_nodes, by_rules};
+ghost use Rattle.table_check.specs.Judging.{wanted, wanted_by, by_nodes, by_rules};
 ghost use Rattle.table.specs.Places.{places as places_of, need as need_of, burst as burst_of};
 
-use super::super::lags::lag_at;
+use super::super::lags::{lag_at, worst_operand};
 use super::Draft;
 use super::uses::is_operand;
 use std::array;
@@ -84,7 +84,7 @@ impl Draft<'_> {
 
     /// What this node wants of node `k`, as far as `k` is an operand of it.
     fn wanted_by(&self, node: &Node, k: u8) -> u32
-        ensures wanted { result ≡ by_node self.now.lags.now k node.now }
+        ensures wanted { result ≡ wanted_by self.now.lags.now k node.now }
         ensures few { result < 131072 }
     {
         self.wanted_on(node, Side::Left, k)
@@ -99,13 +99,12 @@ impl Draft<'_> {
         if !is_operand(node, side, k) {
             return 0;
         }
-        let shape = node.kind.shape();
-        if let Sort::Back = shape.sort {
+        if let Sort::Back = node.kind.shape().sort {
             return u32::from(node.to);
         }
-        let left = lag_at(self.lags, node.left).worst;
-        let right = lag_at(self.lags, node.right).worst;
-        let worst = if shape.binary { left.max(right) } else { left };
+        let left = lag_at(self.lags, node.left);
+        let right = lag_at(self.lags, node.right);
+        let worst = worst_operand(node.kind, left, right);
         let own = lag_at(self.lags, u16::from(k)).best;
         (u32::from(worst) + u32::from(node.to))
             .saturating_sub(u32::from(node.from))
