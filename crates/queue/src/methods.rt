@@ -69,7 +69,7 @@ impl<'a, T: Copy> Ring<'a, T> {
     pub fn len(&self) -> usize
         ensures { result ≡ length (items self.now) }
     {
-        self.at.len
+        self.stand().len
     }
 
     /// How many elements it can hold.
@@ -113,16 +113,12 @@ impl<'a, T: Copy> Ring<'a, T> {
         ensures slots { MatchResult result (λ _. lent self.new ≡ slice_set (lent self.old) (next_slot self.old) x) (λ _. lent self.new ≡ lent self.old) }
         ensures lends { SameLoan self.old self.new }
     {
-        let at = self.at;
         let cap = self.slots.len();
-        if at.len >= cap {
+        if self.at.len >= cap {
             return Err(Full);
         }
-        self.slots[slot(cap, at.head, at.len)] = x;
-        self.at = Stand {
-            len: at.len + 1,
-            ..at
-        };
+        self.slots[slot(cap, self.at.head, self.at.len)] = x;
+        self.at.len += 1;
         Ok(())
     }
 
@@ -134,15 +130,12 @@ impl<'a, T: Copy> Ring<'a, T> {
         ensures next { next_slot self.new ≡ next_slot self.old }
         ensures lends { SameLoan self.old self.new }
     {
-        let at = self.at;
-        if at.len == 0 {
+        if self.at.len == 0 {
             return None;
         }
-        let oldest = self.slots[at.head];
-        self.at = Stand {
-            head: slot(self.slots.len(), at.head, 1),
-            len: at.len - 1,
-        };
+        let oldest = self.slots[self.at.head];
+        self.at.head = slot(self.slots.len(), self.at.head, 1);
+        self.at.len -= 1;
         Some(oldest)
     }
 
