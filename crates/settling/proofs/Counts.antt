@@ -1,14 +1,14 @@
 -- The list of what waits: just the positions that wait, upward, and no more of them than places. Assumes nothing.
-use Rattle.std.proofs.Common.{◌≡◌, ℕ, zero, suc, ◌<◌, ◌≤◌, Bool, true, length, subst, ⊎_elim, arith}
+use Rattle.std.proofs.Common.{◌≡◌, ℕ, suc, ◌<◌, ◌≤◌, true, length, ⊎_elim, arith}
 use Rattle.std.specs.List.{range_with_len}
 use Rattle.std.proofs.ByRecursion.{all-has, all_kept_by, kept_by_passes}
-use Rattle.std.proofs.lemmas.Bool.{cases_eq, and_parts, and_from, or_cases, or_left, or_right, leb-true, le-leb, eqb-true, eq-eqb, false≢true}
+use Rattle.std.proofs.lemmas.Bool.{and_parts, and_from, or_cases, or_left, or_right, leb-true, le-leb, eqb-true, eq-eqb}
 use Rattle.scale.specs.Order.{Scale}
 use Rattle.table.specs.declared.kind.Side.{Side}
 use Rattle.table.specs.declared.kind.Side.TheVariants.{Left, Right}
 use Rattle.table.specs.Places.{Use, parent, rule, places}
-use Rattle.table.specs.Refusals.{any}
 use Rattle.table.specs.Tables.{Table, size}
+use Rattle.table.proofs.Anywhere.{any_some, any_found}
 use Rattle.settling.specs.Settled.{settled}
 use Rattle.settling.specs.Keeping.{WaitingCounted}
 use Rattle.settling.specs.Waiting.{released, side_keeps, parent_keeps, rule_keeps, unreleased, Waits}
@@ -16,32 +16,15 @@ use Rattle.settling.proofs.Held.{held_in_places, still_waits}
 use Rattle.settling.proofs.Filters.{in_range, has_passed, few_passed, upward}
 use Rattle.settling.proofs.Neighbours.{neighbours}
 
--- some number below n passes
-any_from : (n : ℕ) (test : ℕ → Bool) (j : ℕ) → j < n → test j ≡ true → any n test ≡ true
-any_from zero test j h e = absurd (omega arith)
-any_from (suc n) test j h e =
-    ⊎_elim
-    (λ here. or_right _ _ (subst (λ i. test i ≡ true) here e))
-    (λ other. or_left _ _ (any_from n test j (omega arith) e))
-    (cases_eq j n)
-
-any_some : (n : ℕ) (test : ℕ → Bool) → any n test ≡ true → (j : ℕ) × (j < n) × (test j ≡ true)
-any_some zero test e = absurd (false≢true e)
-any_some (suc n) test e =
-    ⊎_elim
-    (λ f. let r = any_some n test f in (r.0, omega (arith, r.1), r.2))
-    (λ f. (n, omega arith, f))
-    (or_cases _ _ e)
-
 -- the test for a use that has not released a position finds one, and only then
 module _ {V : Type 0} (s : Scale V) (σ : ℕ → ℕ → V) (m : ℕ) (t : Table) (k p : ℕ) where
   found : (u : Use t k) → released s σ m t k u ≤ p → unreleased s σ m t k p ≡ true
   found (rule r h e) kept =
-      or_right _ _ (any_from (length t.rules) (rule_keeps s σ m t k p) r h (and_from _ _ (eq-eqb _ _ e) (le-leb _ _ kept)))
+      or_right _ _ (any_some (length t.rules) (rule_keeps s σ m t k p) r h (and_from _ _ (eq-eqb _ _ e) (le-leb _ _ kept)))
   found (parent j Left h e) kept =
-      or_left _ _ (any_from (size t) (parent_keeps s σ m t k p) j h (or_left _ _ (and_from _ _ e (le-leb _ _ kept))))
+      or_left _ _ (any_some (size t) (parent_keeps s σ m t k p) j h (or_left _ _ (and_from _ _ e (le-leb _ _ kept))))
   found (parent j Right h e) kept =
-      or_left _ _ (any_from (size t) (parent_keeps s σ m t k p) j h (or_right _ _ (and_from _ _ e (le-leb _ _ kept))))
+      or_left _ _ (any_some (size t) (parent_keeps s σ m t k p) j h (or_right _ _ (and_from _ _ e (le-leb _ _ kept))))
 
   by_side : (j : ℕ) (side : Side) → j < size t → side_keeps s σ m t k p j side ≡ true → (u : Use t k) × (released s σ m t k u ≤ p)
   by_side j side h e = let both = and_parts _ _ e in (parent j side h both.0, leb-true _ _ both.1)
@@ -49,9 +32,9 @@ module _ {V : Type 0} (s : Scale V) (σ : ℕ → ℕ → V) (m : ℕ) (t : Tabl
   finds : unreleased s σ m t k p ≡ true → (u : Use t k) × (released s σ m t k u ≤ p)
   finds e =
       ⊎_elim
-      (λ f. let j = any_some (size t) (parent_keeps s σ m t k p) f in ⊎_elim (by_side j.0 Left j.1) (by_side j.0 Right j.1) (or_cases _ _ j.2))
+      (λ f. let j = any_found (size t) (parent_keeps s σ m t k p) f in ⊎_elim (by_side j.0 Left j.1) (by_side j.0 Right j.1) (or_cases _ _ j.2))
       (λ f.
-      let r = any_some (length t.rules) (rule_keeps s σ m t k p) f in
+      let r = any_found (length t.rules) (rule_keeps s σ m t k p) f in
       let both = and_parts _ _ r.2 in
       (rule r.0 r.1 (eqb-true _ _ both.0), leb-true _ _ both.1))
       (or_cases _ _ e)

@@ -3,7 +3,8 @@ use Rattle.std.proofs.Common.{◌≡◌, ℕ, zero, suc, ◌<◌, Bool, true, De
 use Rattle.std.proofs.lemmas.Bool.{cases_eq, or_cases, or_left, or_right, false≢true}
 use Rattle.table.specs.Refusals.{any}
 
-any_some : (n : ℕ) (test : ℕ → Bool) (j : ℕ) → j < n → test j ≡ true → any n test ≡ true
+-- some number below n passes
+pub any_some : (n : ℕ) (test : ℕ → Bool) (j : ℕ) → j < n → test j ≡ true → any n test ≡ true
 any_some zero test j i h = absurd (omega arith)
 any_some (suc n) test j i h =
     ⊎_elim
@@ -11,7 +12,7 @@ any_some (suc n) test j i h =
     (λ ne. or_left _ (test n) (any_some n test j (omega arith) h))
     (cases_eq j n)
 
-any_found : (n : ℕ) (test : ℕ → Bool) → any n test ≡ true → (j : ℕ) × (j < n) × (test j ≡ true)
+pub any_found : (n : ℕ) (test : ℕ → Bool) → any n test ≡ true → (j : ℕ) × (j < n) × (test j ≡ true)
 any_found zero test e = absurd (false≢true e)
 any_found (suc n) test e =
     ⊎_elim
