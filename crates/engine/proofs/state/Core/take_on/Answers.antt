@@ -17,6 +17,9 @@ tick_all-requires-clause-sound g c =
 pub invariant_of-self-clause-rising : goal.invariant_of-self-clause-rising
 invariant_of-self-clause-rising g c = still_rising c.args.self.now c.tick_all.new.keeps c.tick_all.ensures.regions
 
+pub invariant_of-self-clause-inside : goal.invariant_of-self-clause-inside
+invariant_of-self-clause-inside g c k h = omega (arith, (c.tick_all.ensures.regions k).1, c.args.self.now.inside k h)
+
 pub invariant_of-self-clause-stands : goal.invariant_of-self-clause-stands
 invariant_of-self-clause-stands g c = still_stands c.args.self.now c.tick_all.new.keeps c.tick_all.ensures.regions c.nodes.result.now _ _ c.tick_all.ensures.sound c.nodes.ensures
 
