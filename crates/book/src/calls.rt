@@ -31,6 +31,7 @@ impl<'a, V: Readable> Book<'a, V> {
     }
 }
 
+// That the loan stays the same is said by each call: of old and new, so that no invariant of one book can say it.
 impl<'a, V: Readable> Outbox<V> for Book<'a, V> {
     ghost waiting = { waiting_in V.Scale.scale V.Readable.decoded };
 

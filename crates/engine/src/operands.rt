@@ -18,6 +18,7 @@ pub(crate) struct Operands<'a, V> {
     ghost upright: { node.from ≤ node.to },
 }
 
+// Each method asks for a position below 2^32, which is no operand's: with a window's end it still fits a `usize`.
 impl<'a, V: Scale> Operands<'a, V> {
     /// The value of the node at position `i`, from its sample of this tick or from its operands' queues.
     #[tactic(auto, unfolding(table::specs::Values::value))]

@@ -24,6 +24,8 @@ fn sample_of<S: Source>(source: &S, n: usize, node: Node) -> S::Value
     <S::Value>::lowest()
 }
 
+// Nodes and queues come apart, since the core lends them at once, the ones to read and the others to change.
+
 /// Takes every node's queue on by a tick.
 pub(crate) fn settle_all<V: Scale, S: Source<Value = V>>(
     nodes: &[Node],

@@ -28,6 +28,7 @@ pub(crate) struct Turn<'m, V> {
     ghost upright: { node.from ≤ node.to },
 }
 
+// That the memory's loan stays the same is said by each call: of old and new, so that no invariant of one turn can say it.
 impl<'m, V: Scale> Turn<'m, V> {
     /// Node `k`, with its own queue among these and its operands'.
     pub(crate) fn of(memory: &'m mut [V], keeps: &[Keep], node: Node, k: usize) -> Turn<'m, V>

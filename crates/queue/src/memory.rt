@@ -17,6 +17,8 @@ fn keep_in<T: Copy>(slots: &mut [T], at: Stand, x: T) -> Result<Stand, Misfit>
     Ok(queue.stand())
 }
 
+// Region and stand come apart, since a caller has its region for good, and each call answers the next stand.
+
 /// One more element in the queue that stands so in this region; in a full queue the oldest makes room for it. It answers
 /// where the queue stands then. A region that does not lie in the memory, or a stand that does not fit it, is refused.
 #[tactic(auto, using(crate::proofs::Regions::kept_memory))]

@@ -28,6 +28,7 @@ impl Stand {
     }
 }
 
+// What a call changes it says of old and new, the loan that stays the same too: no invariant of one ring can say that.
 impl<'a, T: Copy> Ring<'a, T> {
     /// An empty queue in these slots, which stay as they are.
     #[tactic(auto, using(crate::proofs::Contents::contents_none))]

@@ -38,6 +38,7 @@ fn memory_for(places: &[u32]) -> u32
     places.iter().sum::<u32>() + 2 * places.len() as u32
 }
 
+// Each part says how large its result can be, so that what adds parts up knows that they fit.
 impl Draft<'_> {
     /// What the table costs.
     pub(crate) fn cost(&self) -> Cost
