@@ -53,6 +53,7 @@ impl<'a, V: Scale> Operands<'a, V> {
         let to = usize::from(self.node.to);
         let mut most = V::lowest();
         let mut run = V::highest();
+        // By offset: each turn reads both queues at it, and takes what `left` was so far along.
         for j in from..to + 1 {
             most = most.greater(self.right.at(i + j, other).lesser(run));
             run = run.lesser(self.left.at(i + j, other));
@@ -72,6 +73,7 @@ impl<'a, V: Scale> Operands<'a, V> {
             return most;
         }
         let mut run = self.left.least(i - from + 1, i + 1, other);
+        // By offset too, downward from `i`.
         for j in from..to.min(i) + 1 {
             most = most.greater(self.right.at(i - j, other).lesser(run));
             run = self.left.at(i - j, other).lesser(run);

@@ -17,6 +17,7 @@ pub(crate) fn settled_by(core: &Core) -> [usize; 16]
     ensures { (r : ℕ) → r < length (monitored core.now).rules → slice_index result r ≡ (keep_of core.now.keeps (rule_node (monitored core.now) r)).count }
 {
     let rules = core.plan().rules();
+    // An array, since a plan has at most 16 rules and a tick needs no heap.
     let mut settled = [0; 16];
     for (r, node) in rules.iter().enumerate() {
         settled[r] = core.settled(usize::from(*node));

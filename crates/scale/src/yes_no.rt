@@ -60,6 +60,7 @@ impl Scale for YesNo {
     }
 
     fn decode(code: u16) -> Option<YesNo> {
+        // By its cases, since `as` makes no value of a code.
         match code {
             0 => Some(YesNo::No),
             1 => Some(YesNo::Yes),

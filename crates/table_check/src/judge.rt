@@ -11,6 +11,7 @@ use table::node::{Lag, Node, UncheckedNode};
 use table::read::read_node;
 
 /// Nodes that passed, with their lags. They stand first, as many as there are.
+// Arrays side by side, since a plan hands out its nodes and its lags each as a slice.
 #[derive(Clone, Copy)]
 pub(crate) struct Judged {
     pub nodes: [Node; 64],
