@@ -6,7 +6,7 @@ ghost use Rattle.engine.specs.Refusals.{tick_refusal};
 use source::fault::Fault;
 
 /// Why a tick is refused.
-#[derive(Clone, Copy)]
+#[derive(Clone, Copy, PartialEq, Eq, Debug)]
 pub enum TickFault {
     /// The queue memory is below the need.
     Memory,

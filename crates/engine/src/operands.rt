@@ -18,7 +18,8 @@ pub(crate) struct Operands<'a, V> {
     ghost upright: { node.from ≤ node.to },
 }
 
-// Each method asks for a position below 2^32, which is no operand's: with a window's end it still fits a `usize`.
+// Each method asks for a position below 2^32, so that with a window's end it fits a `usize`. It is a sum, and a type for it
+// would be made anew at every call.
 impl<'a, V: Scale> Operands<'a, V> {
     /// The value of the node at position `i`, from its sample of this tick or from its operands' queues.
     #[tactic(auto, unfolding(table::specs::Values::value))]

@@ -16,7 +16,7 @@ use table_check::plan::Plan;
 pub struct Core {
     plan: Plan,
     ticks: usize,
-    // One for each node that a table may have, so that the core needs no heap.
+    // One for each node that a table may have, and no `ArrayVec`, since a core is copied.
     keeps: [Keep; 64],
     ghost few: { ticks ≤ 16777216 },
     ghost rising: { (j k : ℕ) → j < k → k < size (table_of plan) → (keep_of keeps j).to + 2 ≤ (keep_of keeps k).from },

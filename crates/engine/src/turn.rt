@@ -28,7 +28,8 @@ pub(crate) struct Turn<'m, V> {
     ghost upright: { node.from ≤ node.to },
 }
 
-// That the memory's loan stays the same is said by each call: of old and new, so that no invariant of one turn can say it.
+// That the memory's loan stays the same is said by each call, here and in the files beside: of old and new, so that no
+// invariant of one turn can say it. Positions are below 2^32 as in `Operands`.
 impl<'m, V: Scale> Turn<'m, V> {
     /// Node `k`, with its own queue among these and its operands'.
     pub(crate) fn of(memory: &'m mut [V], keeps: &[Keep], node: Node, k: usize) -> Turn<'m, V>
@@ -82,12 +83,7 @@ impl<'m, V: Scale> Turn<'m, V> {
         ensures long { length self.new.memory.now ≡ length self.old.memory.now }
         ensures lends { self.new.memory.ghost_name ≡ self.old.memory.ghost_name }
     {
-        match keep_at(self.memory, self.own.from, self.own.to, self.own.at, value) {
-            Ok(at) => {
-                self.own.at = at;
-                self.own.count += 1;
-            }
-            Err(_) => unreachable!(),
-        }
+        self.own.at = keep_at(self.memory, self.own.from, self.own.to, self.own.at, value).unwrap();
+        self.own.count += 1;
     }
 }

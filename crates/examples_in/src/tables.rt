@@ -2,11 +2,12 @@
 use std::alloc::{AllocError, Global};
 use std::test::Fail;
 use table::fault::TableFault;
+use table::kind::Kind;
 use table::node::{UncheckedNode, UncheckedTable};
 use table_check::plan::{Plan, check};
 
 const SAMPLE: UncheckedNode = UncheckedNode {
-    kind: 0,
+    kind: Kind::Sample as u16,
     left: 0,
     right: 0,
     from: 0,
@@ -15,10 +16,7 @@ const SAMPLE: UncheckedNode = UncheckedNode {
 
 /// The number and the place of a refusal.
 fn refusal(answer: Result<(), TableFault>) -> Option<(u8, Option<u8>)> {
-    match answer {
-        Ok(()) => None,
-        Err(fault) => Some((fault.number(), fault.place())),
-    }
+    answer.err().map(|fault| (fault.number(), fault.place()))
 }
 
 /// What the check of these nodes, with this rule, refuses.
@@ -32,16 +30,16 @@ fn refused(
 }
 
 /// A sample under a window of a kind, and one more node over that.
-fn windowed(kind: u16, to: u16, over: u16) -> [UncheckedNode; 3] {
+fn windowed(kind: Kind, to: u16, over: Kind) -> [UncheckedNode; 3] {
     let inner = UncheckedNode {
-        kind,
+        kind: kind as u16,
         left: 0,
         right: 0,
         from: 0,
         to,
     };
     let outer = UncheckedNode {
-        kind: over,
+        kind: over as u16,
         left: 1,
         right: 0,
         from: 0,
@@ -52,7 +50,7 @@ fn windowed(kind: u16, to: u16, over: u16) -> [UncheckedNode; 3] {
 
 #[test]
 fn a_table_holds_copies_of_its_nodes_and_rules(rt: HostRuntime) -> Result<(), Fail> {
-    let nodes = windowed(4, 150, 1);
+    let nodes = windowed(Kind::Within, 150, Kind::Not);
     let table = UncheckedTable::new(rt.alloc(), &nodes, &[2, 0])?;
     assert_eq!(rt; table.nodes.len(), 3);
     assert_eq!(rt; table.nodes[1].to, 150);
@@ -62,9 +60,12 @@ fn a_table_holds_copies_of_its_nodes_and_rules(rt: HostRuntime) -> Result<(), Fa
 
 #[test]
 fn a_window_ends_at_4095_at_the_latest(rt: HostRuntime) -> Result<(), Fail> {
-    assert_eq!(rt; refused(rt.alloc(), &windowed(4, 4095, 1), 2)?, None);
     assert_eq!(rt;
-        refused(rt.alloc(), &windowed(4, 4096, 1), 2)?,
+        refused(rt.alloc(), &windowed(Kind::Within, 4095, Kind::Not), 2)?,
+        None
+    );
+    assert_eq!(rt;
+        refused(rt.alloc(), &windowed(Kind::Within, 4096, Kind::Not), 2)?,
         Some((15, Some(1)))
     );
     Ok(())
@@ -72,9 +73,12 @@ fn a_window_ends_at_4095_at_the_latest(rt: HostRuntime) -> Result<(), Fail> {
 
 #[test]
 fn a_node_that_looks_back_needs_an_operand_known_at_once(rt: HostRuntime) -> Result<(), Fail> {
-    assert_eq!(rt; refused(rt.alloc(), &windowed(4, 0, 7), 2)?, None);
     assert_eq!(rt;
-        refused(rt.alloc(), &windowed(4, 1, 7), 2)?,
+        refused(rt.alloc(), &windowed(Kind::Within, 0, Kind::Once), 2)?,
+        None
+    );
+    assert_eq!(rt;
+        refused(rt.alloc(), &windowed(Kind::Within, 1, Kind::Once), 2)?,
         Some((16, Some(2)))
     );
     Ok(())
@@ -85,7 +89,7 @@ fn nots(heap: Global, size: u16) -> Result<UncheckedTable, AllocError> {
     let mut nodes = vec![in heap; SAMPLE]?;
     for k in 1..size {
         nodes.push(UncheckedNode {
-            kind: 1,
+            kind: Kind::Not as u16,
             left: k - 1,
             right: 0,
             from: 0,
@@ -123,7 +127,7 @@ fn a_refusal_leaves_the_plan(rt: HostRuntime) -> Result<(), Fail> {
     assert_eq!(rt; plan.need(), 3);
     assert_eq!(rt;
         refusal(check(
-            &UncheckedTable::new(rt.alloc(), &windowed(4, 150, 1), &[2])?,
+            &UncheckedTable::new(rt.alloc(), &windowed(Kind::Within, 150, Kind::Not), &[2])?,
             &mut plan
         )),
         None

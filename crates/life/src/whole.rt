@@ -16,8 +16,8 @@ use source::Source;
 use std::alloc::{AllocError, Global};
 use table_check::plan::Plan;
 
-// What a life is lent is not one struct: all parts but the plan are borrowed apart and come back changed, so that the
-// contract would name each of them in any case.
+// What a life is lent is not one struct: memory, outbox, caller and log are borrowed apart and come back changed, so that
+// the contract would name each of them in any case. That a loan stays is said of old and new, which no invariant can.
 
 /// Sets up one monitor, makes the calls that the caller names until it ends or the log's room is used, writes each call with
 /// its answer into the log, and hands the monitor back.

@@ -9,6 +9,7 @@ use super::fault::{PutFault, TakeFault};
 use queue::Ring;
 use record::Record;
 
+// Each call says of old and new that the loan stays, as those of the ring do.
 impl<'a, V: Copy> Outbox<V> for Ring<'a, Record<V>> {
     ghost waiting = { items };
 

@@ -16,7 +16,7 @@ pub struct Fault {
 }
 
 /// Why a source refuses a question.
-#[derive(Clone, Copy)]
+#[derive(Clone, Copy, PartialEq, Eq, Debug)]
 pub enum Refusal {
     /// The tick is not below the length.
     PastLength = 33,

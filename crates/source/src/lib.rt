@@ -51,6 +51,7 @@ pub trait Source {
 pub fn first_fault<S: Source>(source: &S, tick: usize, samples: &[usize]) -> Option<Fault>
     ensures { result ≡ first_fault (answer S.layer (S.frames source.now) tick) samples.now }
 {
+    // A fault is what is asked for, so an `Option` of one and no `Result`.
     samples
         .iter()
         .find_map(|sample| source.ask(tick, *sample).err())

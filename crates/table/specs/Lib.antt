@@ -7,3 +7,4 @@ pub mod Places
 pub mod Refusals
 pub mod Accepting
 pub mod Checking
+pub mod Words

@@ -1,6 +1,7 @@
 //! Why a table is refused.
-ghost use Rattle.std.specs.Prelude.{◌≡◌};
+ghost use Rattle.std.specs.Prelude.{◌≡◌, Some};
 ghost use Rattle.table.specs.Refusals.{refusal_of};
+ghost use Rattle.table.specs.Words.{fault_words};
 
 use std::error::Error;
 use std::fmt;
@@ -67,29 +68,38 @@ impl TableFault {
     }
 }
 
-/// What is wrong, after the node or rule that is at fault, if one is.
+/// What is wrong, and with which node or rule.
 impl fmt::Display for TableFault {
+    ghost output = { λ fault. Some (fault_words fault) };
+
     fn fmt<W: fmt::Write>(&self, f: &mut fmt::Formatter<W>) -> fmt::Result {
-        if let Some(place) = self.place() {
-            let what = if let TableFault::NoSuchNode(_) = self {
-                "rule"
-            } else {
-                "node"
-            };
-            write!(f, "{what} {place} ")?;
+        match self {
+            TableFault::NodeCount => f.write_str("there is no node, or there are more than 64"),
+            TableFault::RuleCount => f.write_str("there is no rule, or there are more than 16"),
+            TableFault::UnknownKind(node) => write!(f, "node {node} is of no known kind"),
+            TableFault::Misplaced(node) => {
+                write!(
+                    f,
+                    "node {node} has an operand or a field that cannot stand there"
+                )
+            }
+            TableFault::Window(node) => write!(
+                f,
+                "node {node} has a window that opens after it ends, or ends after 4095"
+            ),
+            TableFault::LateOperand(node) => write!(
+                f,
+                "node {node} looks back over an operand that is not known at once"
+            ),
+            TableFault::TooLate(node) => {
+                write!(f, "node {node} may be known more than 16383 ticks late")
+            }
+            TableFault::NoSuchNode(rule) => write!(f, "rule {rule} names no node"),
+            TableFault::Unused(node) => {
+                write!(f, "node {node} is neither an operand nor named by a rule")
+            }
+            TableFault::TooMuchMemory => f.write_str("the queues need more than 16384 values"),
         }
-        f.write_str(match self {
-            TableFault::NodeCount => "there is no node, or there are more than 64",
-            TableFault::RuleCount => "there is no rule, or there are more than 16",
-            TableFault::UnknownKind(_) => "is of no known kind",
-            TableFault::Misplaced(_) => "has an operand or a field that cannot stand there",
-            TableFault::Window(_) => "has a window that opens after it ends, or ends after 4095",
-            TableFault::LateOperand(_) => "looks back over an operand that is not known at once",
-            TableFault::TooLate(_) => "may be known more than 16383 ticks late",
-            TableFault::NoSuchNode(_) => "names no node",
-            TableFault::Unused(_) => "is neither an operand nor named by a rule",
-            TableFault::TooMuchMemory => "the queues need more than 16384 values",
-        })
     }
 }
 

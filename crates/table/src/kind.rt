@@ -1,6 +1,7 @@
 //! The ten kinds of node, and what there is to know of a kind besides its formula.
-ghost use Rattle.std.specs.Prelude.{◌≡◌};
+ghost use Rattle.std.specs.Prelude.{◌≡◌, Some};
 ghost use Rattle.table.specs.Kinds.{shape, Numbered};
+ghost use Rattle.table.specs.Words.{kind_word, no_kind_words};
 
 use std::error::Error;
 use std::fmt;
@@ -98,6 +99,8 @@ impl TryFrom<u16> for Kind {
 }
 
 impl fmt::Display for Kind {
+    ghost output = { λ kind. Some (kind_word kind) };
+
     fn fmt<W: fmt::Write>(&self, f: &mut fmt::Formatter<W>) -> fmt::Result {
         f.write_str(match self {
             Kind::Sample => "sample",
@@ -115,6 +118,8 @@ impl fmt::Display for Kind {
 }
 
 impl fmt::Display for UnknownKind {
+    ghost output = { λ unknown. Some (no_kind_words unknown) };
+
     fn fmt<W: fmt::Write>(&self, f: &mut fmt::Formatter<W>) -> fmt::Result {
         write!(f, "no kind has number {}", self.0)
     }

@@ -1,11 +1,13 @@
 //! Nodes before and after the check.
-ghost use Rattle.std.specs.Prelude.{◌≡◌, IfOk};
+ghost use Rattle.std.specs.Prelude.{◌≡◌, IfOk, Some};
+ghost use Rattle.table.specs.Words.{node_words, lag_words};
 
 use super::kind::{Kind, Sort};
 use std::alloc::{AllocError, Global};
 use std::fmt;
 
 /// A node as someone wrote it down: nothing is known of its numbers.
+// A type beside `Node`: were both one type over that of the kind, every definition of a table would carry that type along.
 #[derive(Clone, Copy)]
 pub struct UncheckedNode {
     pub kind: u16,
@@ -53,6 +55,8 @@ pub struct Node {
 
 /// The node as it stands in a rule, its operands by their numbers.
 impl fmt::Display for Node {
+    ghost output = { λ node. Some (node_words node) };
+
     fn fmt<W: fmt::Write>(&self, f: &mut fmt::Formatter<W>) -> fmt::Result {
         let shape = self.kind.shape();
         write!(f, "{}", self.kind)?;
@@ -75,6 +79,8 @@ pub struct Lag {
 }
 
 impl fmt::Display for Lag {
+    ghost output = { λ lag. Some (lag_words lag) };
+
     fn fmt<W: fmt::Write>(&self, f: &mut fmt::Formatter<W>) -> fmt::Result {
         write!(f, "lag {} to {}", self.best, self.worst)
     }

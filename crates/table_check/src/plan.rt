@@ -8,7 +8,7 @@ use super::judge::Judged;
 use super::rules::Named;
 
 /// A table that passed the check, with its lags, places, need and burst. Only the check makes one.
-// Arrays, since a table has at most 64 nodes and 16 rules, and a monitor's copy of its plan needs no heap.
+// Arrays and no `ArrayVec`, since a plan is plain data that is copied; a table has at most 64 nodes and 16 rules.
 #[derive(Clone, Copy)]
 pub struct Plan {
     judged: Judged,

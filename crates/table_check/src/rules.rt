@@ -6,7 +6,7 @@ ghost use Rattle.table_check.specs.Judging.{rule_fault};
 use table::fault::TableFault;
 
 /// Rules that passed, each the number of a node. They stand first, as many as there are.
-// An array, since there are at most 16, and a monitor loops over a copy of them.
+// An array and no `ArrayVec`, since a plan is copied; there are at most 16.
 #[derive(Clone, Copy)]
 pub(crate) struct Named {
     pub rules: [u8; 16],

@@ -1,6 +1,6 @@
 //! How a term is made of plain numbers, and worked out.
-ghost use Rattle.std.specs.Prelude.{◌≡◌, ◌^◌, pos, ◌*ℤ◌, IfOk};
-ghost use Rattle.comparators.specs.Comparing.{part};
+ghost use Rattle.std.specs.Prelude.{◌≡◌, ◌^◌, false, pos, ◌*ℤ◌, IfOk};
+ghost use Rattle.comparators.specs.Comparing.{asked, part};
 ghost use Rattle.comparators.specs.Adding.{Makes};
 ghost use Rattle.source.specs.Frames.{answer};
 ghost use Rattle.comparators.specs.Terms.{signed, sign_number, fair, as_given, weighed, Narrow};
@@ -46,8 +46,10 @@ impl TryFrom<Term> for Scaled {
     }
 }
 
-/// A term that asks nothing, for the places where no comparator is held yet.
+/// A term that asks nothing, for the places where no comparator is held yet. By hand, since a ghost field allows no derive.
 impl Default for Scaled {
+    ghost is_default = { λ idle. asked idle.sign ≡ false };
+
     fn default() -> Scaled {
         Scaled {
             word: 0,

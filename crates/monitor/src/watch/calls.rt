@@ -20,6 +20,7 @@ use scale::Scale;
 use source::Source;
 use table_check::plan::Plan;
 
+// That the memory's loan stays is said by each call: of old and new, so that no invariant of one monitor can say it.
 impl<'m, V: Scale> Monitor<'m, V> {
     /// A monitor of this plan, over this memory, with no tick accepted. The memory stays as it is, may hold anything, and may
     /// be too short: then every tick is refused.

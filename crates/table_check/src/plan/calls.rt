@@ -54,7 +54,7 @@ impl Plan {
         self.named.rules()
     }
 
-    /// A copy of the rules, and how many of its places they fill.
+    /// A copy of the rules, and how many of its places they fill: the copy needs neither heap nor the plan.
     pub fn copy_rules(&self) -> ([u8; 16], usize)
         ensures rules { take result.1 result.0 ≡ (table_of self.now).rules }
         ensures few { result.1 ≤ 16 }
