@@ -53,6 +53,14 @@ impl Scale for Margin {
         Margin { value: 32767 }
     }
 
+    fn lesser(self, other: Margin) -> Margin {
+        self.min(other)
+    }
+
+    fn greater(self, other: Margin) -> Margin {
+        self.max(other)
+    }
+
     #[tactic(auto, using(crate::specs::Margins::same_number))]
     fn reverse(self) -> Margin {
         Margin { value: -self.value }

@@ -34,19 +34,12 @@ pub trait Scale: Copy {
     fn highest() -> Self
         ensures { result ≡ scale.highest };
 
-    /// The lesser of two values. The order decides it, so a scale need not say it.
+    // No body by `at_most`: lesser and greater are members of a scale, and not chosen by a test of its order.
     fn lesser(self, other: Self) -> Self
-        ensures { result ≡ scale.lesser self other }
-    {
-        if self.at_most(other) { self } else { other }
-    }
+        ensures { result ≡ scale.lesser self other };
 
-    /// The greater of two values, by the order too.
     fn greater(self, other: Self) -> Self
-        ensures { result ≡ scale.greater self other }
-    {
-        if self.at_most(other) { other } else { self }
-    }
+        ensures { result ≡ scale.greater self other };
 
     fn reverse(self) -> Self
         ensures { result ≡ scale.reversed self };

@@ -48,6 +48,14 @@ impl Scale for YesNo {
         YesNo::Yes
     }
 
+    fn lesser(self, other: YesNo) -> YesNo {
+        self.min(other)
+    }
+
+    fn greater(self, other: YesNo) -> YesNo {
+        self.max(other)
+    }
+
     fn reverse(self) -> YesNo {
         match self {
             YesNo::No => YesNo::Yes,
