@@ -18,7 +18,7 @@ fn is_row(line: &[u8], width: usize) -> bool {
 }
 
 /// The samples of the lines up to the first that is not of so many digits, row after row.
-pub fn read_samples(rt: &HostRuntime, width: usize) -> io::Result<Vec<YesNo>> {
+pub(crate) fn read_samples(rt: &HostRuntime, width: usize) -> io::Result<Vec<YesNo>> {
     let mut samples = Vec::new(rt.alloc());
     for line in BufReader::new(rt.alloc(), rt.reader())?.lines(rt.alloc()) {
         let line = line?;

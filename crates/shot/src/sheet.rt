@@ -40,7 +40,11 @@ fn ended_by(log: &[(Call, Answer<YesNo>)]) -> Option<TickFault> {
 }
 
 /// Prints each record that was taken, and then the totals, or the refusal that ended the run.
-pub fn show(rt: &HostRuntime, log: &[(Call, Answer<YesNo>)], totals: &Totals) -> io::Result<()> {
+pub(crate) fn show(
+    rt: &HostRuntime,
+    log: &[(Call, Answer<YesNo>)],
+    totals: &Totals,
+) -> io::Result<()> {
     for (_, answer) in log {
         if let Answer::Taken(Ok(record)) = answer {
             println!(rt; "{}", Line(*record))?;
