@@ -52,12 +52,13 @@ impl<'a, V: Scale> Operands<'a, V> {
     {
         let from = usize::from(self.node.from);
         let to = usize::from(self.node.to);
+        let (left, right) = (self.left.here(), self.right.here());
         let mut most = V::lowest();
         let mut run = V::highest();
         // By offset: each turn reads both queues at it, and takes what `left` was so far along.
         for j in from..to + 1 {
-            most = most.greater(self.right.at(i + j, other).lesser(run));
-            run = run.lesser(self.left.at(i + j, other));
+            most = most.greater(right.at(i + j, other).lesser(run));
+            run = run.lesser(left.at(i + j, other));
         }
         most
     }
@@ -73,11 +74,12 @@ impl<'a, V: Scale> Operands<'a, V> {
         if i < from {
             return most;
         }
-        let mut run = self.left.least(i - from + 1, i + 1, other);
+        let (left, right) = (self.left.here(), self.right.here());
+        let mut run = left.least(i - from + 1, i + 1, other);
         // By offset too, downward from `i`.
         for j in from..to.min(i) + 1 {
-            most = most.greater(self.right.at(i - j, other).lesser(run));
-            run = self.left.at(i - j, other).lesser(run);
+            most = most.greater(right.at(i - j, other).lesser(run));
+            run = left.at(i - j, other).lesser(run);
         }
         most
     }

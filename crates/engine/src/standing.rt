@@ -17,6 +17,16 @@ pub(crate) struct Standing<'a, V> {
 }
 
 impl<'a, V: Scale> Standing<'a, V> {
+    /// The same queue once more, for a loop to hold: through a reference its region would be looked up at each position.
+    pub(crate) fn here(&self) -> Standing<'a, V>
+        ensures { (result.memory.now ≡ self.now.memory.now) × (result.keep ≡ self.now.keep) }
+    {
+        Standing {
+            memory: self.memory,
+            keep: self.keep,
+        }
+    }
+
     /// The value at a position.
     pub(crate) fn at(&self, position: usize, other: V) -> V
         ensures { result ≡ reading other self.now.memory.now self.now.keep position }
@@ -30,13 +40,15 @@ impl<'a, V: Scale> Standing<'a, V> {
     pub(crate) fn greatest(&self, a: usize, b: usize, other: V) -> V
         ensures { result ≡ greatest V.scale a b (reading other self.now.memory.now self.now.keep) }
     {
-        (a..b).fold(V::lowest(), |most, p| most.greater(self.at(p, other)))
+        let here = self.here();
+        (a..b).fold(V::lowest(), |most, p| most.greater(here.at(p, other)))
     }
 
     /// The least from `a` up to the position before `b`.
     pub(crate) fn least(&self, a: usize, b: usize, other: V) -> V
         ensures { result ≡ least V.scale a b (reading other self.now.memory.now self.now.keep) }
     {
-        (a..b).fold(V::highest(), |least, p| least.lesser(self.at(p, other)))
+        let here = self.here();
+        (a..b).fold(V::highest(), |least, p| least.lesser(here.at(p, other)))
     }
 }
