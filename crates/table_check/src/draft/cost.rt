@@ -57,10 +57,11 @@ impl Draft<'_> {
 
     /// How many of its newest positions each node keeps. Nothing reads what stands behind the nodes.
     fn all_places(&self) -> [u32; 64]
-        ensures places { (k : ℕ) → k < 64 → slice_index result k ≡ places_of (of_draft self.now) k }
+        ensures places { (k : ℕ) → k < length self.now.nodes.now → slice_index result k ≡ places_of (of_draft self.now) k }
         ensures few { (k : ℕ) → k < 64 → slice_index result k ≤ 131072 }
     {
-        array::from_fn(|k| self.places(k as u8))
+        let size = self.nodes.len();
+        array::from_fn(|k| if k < size { self.places(k as u8) } else { 0 })
     }
 
     /// How many of its newest positions node `k` keeps.
