@@ -9,7 +9,7 @@ mod comparator;
 mod comparison;
 mod scaled;
 
-ghost use Rattle.std.specs.Prelude.{◌≡◌, true, [], length, is_ok, is_err};
+ghost use Rattle.std.specs.Prelude.{◌≡◌, ◌≤◌, true, [], length, is_ok, is_err};
 ghost use Rattle.std.specs.Result.{result_err};
 ghost use Rattle.comparators.specs.Adding.{unadded, Added};
 ghost use Rattle.comparators.specs.Comparing.{comparing};
@@ -32,6 +32,7 @@ pub struct Comparators<S> {
     below: S,
     /// In the value itself, so that to add one needs no allocator and has no other refusal.
     held: ArrayVec<Comparator, 32>,
+    ghost few: { length held.items ≤ 32 },
 }
 
 impl<S: Source<Value = Margin>> Comparators<S> {

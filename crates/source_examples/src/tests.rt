@@ -1,4 +1,6 @@
 //! Examples of sources, asked from outside: what a caller sees of rows, of comparators over rows, and of their faults.
+ghost use Rattle.std.specs.Prelude.{◌≤◌};
+
 use comparators::Comparators;
 use comparators::adding::{AddFault, Given, Term};
 use margin::Margin;
@@ -33,6 +35,13 @@ fn given(first: Term, second: Term, comparison: u32, limit: i32) -> Given {
         comparison,
         limit,
     }
+}
+
+/// There are at most 32 comparators, of whatever source: a caller knows that of the width.
+fn width_of<S: Source<Value = Margin>>(source: &Comparators<S>) -> usize
+    ensures { result ≤ 32 }
+{
+    source.width()
 }
 
 #[test]
@@ -89,6 +98,7 @@ fn there_are_at_most_32_comparators(rt: HostRuntime) -> Result<(), Fail> {
         sums.add(given(term(0, 2, 0), term(0, 1, 0), 7, 0)),
         Err(AddFault::Full)
     );
+    assert_eq!(rt; width_of(&sums), 32);
     Ok(())
 }
 
