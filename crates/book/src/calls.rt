@@ -11,7 +11,6 @@ use crate::reading::Readable;
 use outbox::Outbox;
 use outbox::fault::{PutFault, TakeFault};
 use record::Record;
-use std::marker::PhantomData;
 
 impl<'a, V: Readable> Book<'a, V> {
     /// A book over these bytes, which stay as they are. Nothing waits in it.
@@ -26,7 +25,7 @@ impl<'a, V: Readable> Book<'a, V> {
             bytes,
             count: 0,
             taken: 0,
-            scale: PhantomData,
+            scale: &[],
         }
     }
 }

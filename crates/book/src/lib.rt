@@ -11,8 +11,6 @@ pub mod reading;
 
 ghost use Rattle.std.specs.Prelude.{ℕ, ◌*◌, ◌≤◌, length};
 
-use std::marker::PhantomData;
-
 /// Records in the bytes that it is lent, one on each page of 16. Page after page is written, none a second time, so that
 /// the bytes tell all records ever put, taken or not.
 #[derive(Drop)]
@@ -22,8 +20,9 @@ pub struct Book<'a, V> {
     count: usize,
     /// How many of them were taken.
     taken: usize,
-    /// The scale of its records.
-    scale: PhantomData<V>,
+    /// Names the scale of its records, and is empty.
+    // No marker: of `V` a book is `Send` for fewer scales, and of a loan its caller forgets what the bytes hold.
+    scale: &'a [V],
     ghost room: { 16 * count ≤ length bytes.now },
     ghost order: { taken ≤ count },
 }

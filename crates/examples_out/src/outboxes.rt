@@ -6,6 +6,7 @@ ghost use Rattle.book.specs.Pages.{with_page};
 
 use book::Book;
 use book::format::stored;
+use book::reading::Readable;
 use margin::Margin;
 use outbox::fault::PutFault;
 use outbox::{Outbox, put_all, take_all};
@@ -21,6 +22,13 @@ fn put_first(bytes: &mut [u8], record: &Record<YesNo>) -> Result<(), PutFault>
 {
     let mut book = Book::new(bytes);
     book.put(record)
+}
+
+fn needs_send<T: Send>() {}
+
+/// A book can go to another thread, of whatever scale; it holds no value of the scale, so `Sync` is enough.
+fn sent<'a, V: Readable + Sync + 'a>() {
+    needs_send::<Book<'a, V>>()
 }
 
 /// Whatever the outbox, what was put comes back in the order in which it was put.
