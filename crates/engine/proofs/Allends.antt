@@ -27,7 +27,7 @@ pub record Storing {V : Type 0} (s : Scale V) (nodes : List Node) (n : ℕ) (sta
 
 module _ {nodes : List Node} {qs : List Keep} {space m : ℕ} (sound : Sound nodes qs space m) where
   -- a node's queue lies apart from all ends
-  queue_apart : (j i : ℕ) → j < length nodes → i < length nodes → Apart (keep_of qs i).to ((keep_of qs i).to + 2) (keep_of qs j).from (keep_of qs j).to
+  pub queue_apart : (j i : ℕ) → j < length nodes → i < length nodes → Apart (keep_of qs i).to ((keep_of qs i).to + 2) (keep_of qs j).from (keep_of qs j).to
   queue_apart j i hj hi =
       ⊎_elim
       (λ e. inl (omega (arith, ap (λ k. (keep_of qs k).to) e)))
@@ -37,7 +37,7 @@ module _ {nodes : List Node} {qs : List Keep} {space m : ℕ} (sound : Sound nod
       (cases_order j i)
 
   -- so the queues hold what they held where only ends were written
-  regions_kept : {V : Type 0} (memory now : List V) → AllButEndsKept qs (length nodes) memory now → (j : ℕ) → j < length nodes → between (keep_of qs j).from (keep_of qs j).to now ≡ between (keep_of qs j).from (keep_of qs j).to memory
+  pub regions_kept : {V : Type 0} (memory now : List V) → AllButEndsKept qs (length nodes) memory now → (j : ℕ) → j < length nodes → between (keep_of qs j).from (keep_of qs j).to now ≡ between (keep_of qs j).from (keep_of qs j).to memory
   regions_kept memory now others j h = others _ _ (λ i hi. queue_apart j i h hi)
 
   pub still_at : {V : Type 0} (s : Scale V) (memory now : List V) → AllButEndsKept qs (length nodes) memory now → StillAt s nodes m memory now qs

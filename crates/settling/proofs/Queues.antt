@@ -70,6 +70,20 @@ module _ {V : Type 0} {s : Scale V} (o : Lattice s) {t : Table} (a : Accepted t)
           (λ p d. seen_waits y x.left lc lcap l (omega arith) left p (λ now. past_reads_wait s σ n t x.left p now j Left h (left_operand x back.2) back.0 d))
           (λ w p d. seen_waits y x.right rc rcap r (omega arith) right p (λ now. past_reads_wait s σ n t x.right p now j Right h (right_operand x w) back.0 d))
 
+  -- what was held before tick n, and what tick n settled
+  pub held_on : (k c c' cap : ℕ) (q q' : ℕ → V) → k < size t → Queued s σ n t k c cap q → c' ≡ settled s σ (suc n) t k → ((p : ℕ) → p < c → c' ≤ p + cap → q' p ≡ q p) → ((p : ℕ) → c ≤ p → p < c' → c' ≤ p + cap → q' p ≡ verdict s σ (suc n) t k p) → Queued s σ (suc n) t k c' cap q'
+  held_on k c c' cap q q' h queued counts kept new = record {
+    counts = counts;
+    capacity = queued.capacity;
+    holds = λ p lt near.
+        let up = lasting s o t a σ n k h in
+        let was = queued.counts in
+        ⊎_elim
+        (λ old. kept p old near ∙ queued.holds p old (omega (arith, up.0)) ∙ up.1 p (omega arith))
+        (λ ge. new p ge lt near)
+        (cases_lt p c);
+  }
+
   -- what a rule tells, from its node's queue
   pub rule_from_queue : (r c cap old : ℕ) (q : ℕ → V) → r < length t.rules → Queued s σ (suc n) t (rule_node t r) c cap q → old ≡ settled s σ n t (rule_node t r) → runs s r n q old (c - old) ≡ rule_records s σ n t r
   rule_from_queue r c cap old q h queued was =
