@@ -21,7 +21,8 @@ pub struct Book<'a, V> {
     /// How many of them were taken.
     taken: usize,
     /// Names the scale of its records, and is empty.
-    // No marker: of `V` a book is `Send` for fewer scales, and of a loan its caller forgets what the bytes hold.
+    // No marker: with one of `V` a book is not `Send` for a scale that is `Sync` alone, and with one of a loan the check finds
+    // no proof of what the bytes hold after the book.
     scale: &'a [V],
     ghost room: { 16 * count ≤ length bytes.now },
     ghost order: { taken ≤ count },

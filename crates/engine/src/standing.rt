@@ -34,7 +34,7 @@ impl<'a, V: Scale> Standing<'a, V> {
         read(self.memory, self.keep, position, other)
     }
 
-    // Two of a kind, a line each: one with the join as a closure would be no shorter, and its callers longer.
+    // Two of a kind, two lines each: one with the join as a closure would be no shorter, and its callers longer.
 
     /// The greatest from `a` up to the position before `b`.
     pub(crate) fn greatest(&self, a: usize, b: usize, other: V) -> V

@@ -26,7 +26,7 @@ fn put_first(bytes: &mut [u8], record: &Record<YesNo>) -> Result<(), PutFault>
 
 fn needs_send<T: Send>() {}
 
-/// A book can go to another thread, of whatever scale; it holds no value of the scale, so `Sync` is enough.
+/// A book of a scale that is `Sync` can go to another thread; it holds no value of the scale, which need not be `Send`.
 fn sent<'a, V: Readable + Sync + 'a>() {
     needs_send::<Book<'a, V>>()
 }
